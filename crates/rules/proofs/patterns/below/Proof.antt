@@ -1,0 +1,24 @@
+use native.Mathlib.Omega.{arith}
+use mathlib.Core.Path.{_≡_, refl, sym, ap, _∙_}
+use borrow.Author.Tests.{eq-eqb, ne-eqb, lt-ltb, le-ltb, le-leb, lt-leb}
+use Rattle.rules.proofs.BitLaws.{below-shift, below-full}
+use borrow.Author.Needs.{needs}
+use Rattle.rules.proofs.patterns.below.Statement.{statement}
+use Rattle.rules.proofs.patterns.below.Tie as tie
+use Rattle.rules.proofs.patterns.below.Reads as reads
+use Rattle.rules.proofs.patterns.below.Lts as lts
+
+-- src/patterns.rt:14:16
+shr-result : tie.Need-shr-result
+shr-result c = search needs
+
+-- src/patterns.rt:14:9
+returns : tie.Need-returns
+returns c = below-shift (c .before .args .word) (c .before .args .width)
+
+-- src/patterns.rt:9:1
+returns-2 : tie.Need-returns-2
+returns-2 c = sym (lt-ltb _ _ (below-full (c .before .args .word) (c .before .args .width) (omega arith) (omega arith)))
+
+pub below-spec : {M : Type 1} → statement M
+below-spec = tie.close (tie.spec shr-result returns returns-2)

@@ -1,0 +1,62 @@
+// The rule library: rules, lists of rules, refusals and answers; checking, looking up, and comparing two rules.
+mod checks;
+mod lookups;
+mod pairs;
+mod patterns;
+mod slices;
+
+pub use checks::check_list;
+pub use checks::check_list_as;
+pub use checks::check_rule;
+pub use lookups::lookup;
+pub use pairs::covers;
+pub use pairs::crosses;
+pub use pairs::distance;
+pub use patterns::rule_covers;
+pub use patterns::rule_crosses;
+pub use slices::put_rule;
+pub use slices::rule_at;
+
+// A ternary pattern with a decision. A care bit of 1 means that the place is 0 or 1 as the value bit says; a care bit of
+// 0 is a star, and the value bit there is 0.
+pub struct Rule {
+    pub care: u64,
+    pub value: u64,
+    pub decision: u16,
+}
+
+// A header in wire order.
+pub struct Wire(pub u64);
+
+// Why a call was refused: the number of the refusal and its place, which is a list and a rule counted from 1, or 0 and 0.
+pub struct Refusal {
+    pub number: usize,
+    pub list: usize,
+    pub rule: usize,
+}
+
+// What a check finds.
+pub enum Verdict {
+    Fine,
+    Refused(Refusal),
+}
+
+// What looking a header up finds: the decision of the first matching rule, or that none matches.
+pub enum Looked {
+    Decision(u16),
+    Miss,
+    Refused(Refusal),
+}
+
+// Whether something holds of two rules.
+pub enum Holds {
+    Yes,
+    No,
+    Refused(Refusal),
+}
+
+// A number of places.
+pub enum Measured {
+    Places(u32),
+    Refused(Refusal),
+}

@@ -1,0 +1,73 @@
+// Looking a header up: the first match decides.
+ghost use mathlib.Core.Path.{_≡_};
+ghost use Rattle.rules.specs.Rules.{position};
+ghost use Rattle.rules.specs.Slices.{rulesOf, Lent};
+ghost use Rattle.rules.specs.Replies.{lookedReply};
+ghost use Rattle.rules.specs.Calls.{lookedUp};
+ghost use Rattle.rules.specs.Found.{FirstAt};
+use crate::Looked;
+use crate::Refusal;
+use crate::Verdict;
+use crate::Wire;
+use crate::checks::check_list;
+use crate::patterns::below;
+use crate::patterns::rule_matches;
+use crate::slices::rule_at;
+
+// Where the first matching rule stands, counted from 0.
+pub(crate) enum Found {
+    At(usize),
+    Nothing,
+}
+
+// The first rule that matches.
+pub(crate) fn first_match(care: &[u64], value: &[u64], decision: &[u16], header: u64) -> Found
+    requires { ⌜ Lent (now care) (now value) (now decision) ⌝ }
+    ensures { λ r. ⌜ FirstAt (rulesOf (now (care .entry)) (now (value .entry)) (now (decision .entry))) header r ⌝ }
+{
+    let mut i: usize = 0;
+    while i < care.len() {
+        if rule_matches(rule_at(care, value, decision, i), header) {
+            return Found::At(i);
+        }
+        i += 1;
+    }
+    Found::Nothing
+}
+
+// Looks a header up, whichever its kind.
+pub(crate) fn lookup_number(
+    width: u32,
+    care: &[u64],
+    value: &[u64],
+    decision: &[u16],
+    header: u64,
+) -> Looked
+    ensures { λ r. ⌜ lookedReply r
+        ≡ lookedUp width (now (care .entry)) (now (value .entry)) (now (decision .entry)) header ⌝ }
+{
+    let v = check_list(width, care, value, decision);
+    if let Verdict::Refused(x) = v {
+        return Looked::Refused(x);
+    }
+    if below(header, width) {
+        let Found::At(i) = first_match(care, value, decision, header) else {
+            return Looked::Miss;
+        };
+        let rule = rule_at(care, value, decision, i);
+        return Looked::Decision(rule.decision);
+    }
+    Looked::Refused(Refusal {
+        number: 6,
+        list: 0,
+        rule: 0,
+    })
+}
+
+// Looks a header in wire order up: the checks of the list, then 6; else the decision of the first matching rule.
+pub fn lookup(width: u32, care: &[u64], value: &[u64], decision: &[u16], header: Wire) -> Looked
+    ensures { λ r. ⌜ lookedReply r
+        ≡ lookedUp width (now (care .entry)) (now (value .entry)) (now (decision .entry)) (header .0) ⌝ }
+{
+    lookup_number(width, care, value, decision, header.0)
+}
