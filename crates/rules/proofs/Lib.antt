@@ -8,3 +8,4 @@ pub mod RuleLaws
 pub mod FoundLaws
 pub mod PlaceLaws
 pub mod EntryLaws
+pub mod Unique
