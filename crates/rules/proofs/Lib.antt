@@ -9,3 +9,7 @@ pub mod FoundLaws
 pub mod PlaceLaws
 pub mod EntryLaws
 pub mod Unique
+pub mod WordLaws
+pub mod SwapLaws
+pub mod MoveLaws
+pub mod SwapSteps

@@ -1,0 +1,54 @@
+use borrow.Author.Needs.{needs}
+use Rattle.rules.proofs.swaps.swap_header_verdict.Statement.{statement}
+use Rattle.rules.proofs.swaps.swap_header_verdict.Tie as tie
+use Rattle.rules.proofs.swaps.swap_header_verdict.Reads as reads
+use Rattle.rules.proofs.swaps.swap_header_verdict.Lts as lts
+use Rattle.rules.proofs.checks.is_width.Reads as is-width-reads
+use Rattle.rules.proofs.checks.refused.Reads as refused-reads
+use Rattle.rules.proofs.patterns.below.Reads as below-reads
+use Rattle.rules.proofs.swaps.places_verdict.Reads as places-verdict-reads
+
+-- src/swaps.rt:214:8
+is-width-requires : tie.Need-is-width-requires
+is-width-requires c κs = search needs
+
+-- src/swaps.rt:215:12
+below-requires : tie.Need-below-requires
+below-requires c κs = ?
+
+-- src/swaps.rt:216:13
+places-verdict-requires : tie.Need-places-verdict-requires
+places-verdict-requires c κs = ?
+
+-- src/swaps.rt:216:13
+returns : tie.Need-returns
+returns c = ?
+
+-- src/swaps.rt:218:9
+refused-requires : tie.Need-refused-requires
+refused-requires c κs = search needs
+
+-- src/swaps.rt:218:9
+returns-2 : tie.Need-returns-2
+returns-2 c = ?
+
+-- src/swaps.rt:220:5
+refused-requires-2 : tie.Need-refused-requires-2
+refused-requires-2 c κs = search needs
+
+-- src/swaps.rt:211:1
+returns-3 : tie.Need-returns-3
+returns-3 c = ?
+
+pub swap-header-verdict-spec : {M : Type 1} → statement M
+swap-header-verdict-spec =
+    tie.close
+    (tie.spec
+    is-width-requires
+    below-requires
+    places-verdict-requires
+    returns
+    refused-requires
+    returns-2
+    refused-requires-2
+    returns-3)
