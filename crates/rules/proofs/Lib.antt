@@ -13,3 +13,4 @@ pub mod WordLaws
 pub mod SwapLaws
 pub mod MoveLaws
 pub mod SwapSteps
+pub mod SwapCallLaws

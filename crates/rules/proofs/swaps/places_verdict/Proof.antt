@@ -1,3 +1,5 @@
+use Rattle.rules.proofs.SwapCallLaws.{places-yes, places-no}
+use mathlib.Core.Path.{sym, _∙_}
 use borrow.Author.Needs.{needs}
 use Rattle.rules.proofs.swaps.places_verdict.Statement.{statement}
 use Rattle.rules.proofs.swaps.places_verdict.Tie as tie
@@ -12,7 +14,7 @@ good-places-requires c κs = search needs
 
 -- src/swaps.rt:184:9
 returns : tie.Need-returns
-returns c = ?
+returns c = sym (places-yes 64 _ (sym (c .before .good-places .ensures) ∙ c .if1 .taken))
 
 -- src/swaps.rt:186:5
 refused-requires : tie.Need-refused-requires
@@ -20,7 +22,7 @@ refused-requires c κs = search needs
 
 -- src/swaps.rt:179:1
 returns-2 : tie.Need-returns-2
-returns-2 c = ?
+returns-2 c = c .refused .ensures ∙ sym (places-no 64 _ (sym (c .before .before .good-places .ensures) ∙ c .before .if1 .left))
 
 pub places-verdict-spec : {M : Type 1} → statement M
 places-verdict-spec = tie.close (tie.spec good-places-requires returns refused-requires returns-2)

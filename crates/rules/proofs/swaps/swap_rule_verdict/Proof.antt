@@ -1,3 +1,7 @@
+use Rattle.rules.proofs.SwapCallLaws.{rule-most}
+use Rattle.rules.proofs.ReplyLaws.{fine-next, verdict-stop}
+use Rattle.rules.specs.SwapCalls.{checkSwapRule}
+use mathlib.Core.Path.{_≡_, refl, sym, ap, ap₂, _∙_}
 use borrow.Author.Needs.{needs}
 use Rattle.rules.proofs.swaps.swap_rule_verdict.Statement.{statement}
 use Rattle.rules.proofs.swaps.swap_rule_verdict.Tie as tie
@@ -19,15 +23,17 @@ enum-told-2 c = search needs
 
 -- src/swaps.rt:205:9
 returns : tie.Need-returns
-returns c = ?
+unfolding checkSwapRule
+returns c = sym (verdict-stop _ _ _ (c .before .before .check-rule .ensures) (c .enum-told2 .given .1))
 
 -- src/swaps.rt:207:5
 places-verdict-requires : tie.Need-places-verdict-requires
-places-verdict-requires c κs = ?
+places-verdict-requires c κs = rule-most _ 1 1 _ _ (c .before .before .check-rule .ensures) (c .enum-told .given .1)
 
 -- src/swaps.rt:200:1
 returns-2 : tie.Need-returns-2
-returns-2 c = ?
+unfolding checkSwapRule
+returns-2 c = c .places-verdict .ensures ∙ sym (fine-next _ _ _ (c .before .before .before .check-rule .ensures) (c .before .enum-told .given .1))
 
 pub swap-rule-verdict-spec : {M : Type 1} → statement M
 swap-rule-verdict-spec =

@@ -1,3 +1,10 @@
+use Rattle.rules.proofs.SwapCallLaws.{verdict-passed, header-whole}
+use Rattle.rules.proofs.ReplyLaws.{fine-next, refused-stop}
+use Rattle.rules.specs.SwapCalls.{swapOf, appliedHeader}
+use mathlib.Core.Path.{_≡_, refl, sym, ap, ap₂, _∙_}
+use mathlib.Core.List.{[], _∷_}
+use Prim.Native.Nat.{ℕ}
+use Rattle.rules.specs.Replies.{Gives}
 use borrow.Author.Needs.{needs}
 use Rattle.rules.proofs.swaps.Swap.apply.Statement.{statement}
 use Rattle.rules.proofs.swaps.Swap.apply.Tie as tie
@@ -16,18 +23,20 @@ enum-known-v c = search needs
 
 -- src/swaps.rt:284:13
 returns : tie.Need-returns
-returns c = ?
+unfolding appliedHeader
+returns c = sym (refused-stop _ _ _ (c .before .before .before .swap-header-verdict .ensures) (c .before .v .given .1))
 
 enum-told : tie.Need-enum-told
 enum-told c = search needs
 
 -- src/swaps.rt:286:35
 moved-word-requires : tie.Need-moved-word-requires
-moved-word-requires c κs = ?
+moved-word-requires c κs = let g = header-whole 64 _ _ (verdict-passed _ _ (c .before .before .before .swap-header-verdict .ensures) (c .before .enum-told .given .1)) .0 in (g .most, g .places)
 
 -- src/swaps.rt:276:5
 returns-2 : tie.Need-returns-2
-returns-2 c = ?
+unfolding appliedHeader
+returns-2 c = ap (λ (n : ℕ). Gives (n ∷ [])) (c .moved-word .ensures) ∙ sym (fine-next _ _ _ (c .before .before .before .before .swap-header-verdict .ensures) (c .before .before .enum-told .given .1))
 
 pub apply-spec : {M : Type 1} → statement M
 apply-spec =

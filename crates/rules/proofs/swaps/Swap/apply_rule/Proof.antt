@@ -1,3 +1,11 @@
+use Rattle.rules.proofs.SwapCallLaws.{verdict-passed, rule-whole}
+use Rattle.rules.proofs.ReplyLaws.{fine-next, refused-stop}
+use Rattle.rules.specs.SwapCalls.{appliedRule}
+use mathlib.Core.Path.{_≡_, refl, sym, ap, ap₂, _∙_}
+use mathlib.Core.List.{[], _∷_}
+use Prim.Native.Nat.{ℕ}
+use Rattle.rules.specs.Replies.{Gives}
+use Rattle.rules.specs.Swaps.{movedRule}
 use borrow.Author.Needs.{needs}
 use Rattle.rules.proofs.swaps.Swap.apply_rule.Statement.{statement}
 use Rattle.rules.proofs.swaps.Swap.apply_rule.Tie as tie
@@ -16,22 +24,24 @@ enum-known-v c = search needs
 
 -- src/swaps.rt:264:13
 returns : tie.Need-returns
-returns c = ?
+unfolding appliedRule
+returns c = sym (refused-stop _ _ _ (c .before .before .before .swap-rule-verdict .ensures) (c .before .v .given .1))
 
 enum-told : tie.Need-enum-told
 enum-told c = search needs
 
 -- src/swaps.rt:266:13
 moved-word-requires : tie.Need-moved-word-requires
-moved-word-requires c κs = ?
+moved-word-requires c κs = let g = rule-whole 64 _ _ (verdict-passed _ _ (c .before .before .before .swap-rule-verdict .ensures) (c .before .enum-told .given .1)) .0 in (g .most, g .places)
 
 -- src/swaps.rt:267:13
 moved-word-requires-2 : tie.Need-moved-word-requires-2
-moved-word-requires-2 c κs = ?
+moved-word-requires-2 c κs = let g = rule-whole 64 _ _ (verdict-passed _ _ (c .before .before .before .before .before .swap-rule-verdict .ensures) (c .before .before .before .enum-told .given .1)) .0 in (g .most, g .places)
 
 -- src/swaps.rt:257:5
 returns-2 : tie.Need-returns-2
-returns-2 c = ?
+unfolding appliedRule movedRule
+returns-2 c = ap₂ (λ (m n : ℕ). Gives (m ∷ n ∷ c .before .before .before .before .before .before .before .before .before .args .rule .decision ∷ [])) (c .before .before .moved-word .ensures) (c .moved-word2 .ensures) ∙ sym (fine-next _ _ _ (c .before .before .before .before .before .before .swap-rule-verdict .ensures) (c .before .before .before .before .enum-told .given .1))
 
 pub apply-rule-spec : {M : Type 1} → statement M
 apply-rule-spec =

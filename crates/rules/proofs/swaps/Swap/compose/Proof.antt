@@ -1,3 +1,8 @@
+use Rattle.rules.proofs.SwapCallLaws.{verdict-passed, swaps-together, together-good, given-refused, given-fine}
+use Rattle.rules.specs.SwapCalls.{swapOf, joined}
+use mathlib.Core.Path.{_≡_, refl, sym, ap, ap₂, _∙_}
+use mathlib.Core.List.{List}
+use Prim.Native.Nat.{ℕ}
 use borrow.Author.Needs.{needs}
 use Rattle.rules.proofs.swaps.Swap.compose.Statement.{statement}
 use Rattle.rules.proofs.swaps.Swap.compose.Tie as tie
@@ -21,7 +26,7 @@ refused-swap-requires c κs = search needs
 
 -- src/swaps.rt:334:13
 returns : tie.Need-returns
-returns c = ?
+returns c = given-refused 64 _ _ _ (c .before .before .before .before .swaps-verdict .ensures) _ (c .before .before .v .given .1) (c .refused-swap .ensures)
 
 enum-told : tie.Need-enum-told
 enum-told c = search needs
@@ -32,11 +37,12 @@ cast-composed-places c = search needs
 
 -- src/swaps.rt:336:13
 composed-places-requires : tie.Need-composed-places-requires
-composed-places-requires c κs = ?
+composed-places-requires c κs = let g = swaps-together 64 _ _ (verdict-passed _ _ (c .before .before .before .before .swaps-verdict .ensures) (c .before .before .enum-told .given .1)) in (g .first .most, together-good 64 _ _ g)
 
 -- src/swaps.rt:325:5
 returns-2 : tie.Need-returns-2
-returns-2 c = ?
+unfolding joined
+returns-2 c = given-fine 64 _ _ _ (c .before .before .before .before .before .swaps-verdict .ensures) _ _ (c .before .before .before .enum-told .given .1) (ap (λ (l : List ℕ). swapOf l (c .before .before .before .before .before .before .before .before .before .before .args .self .width)) (c .composed-places .ensures))
 
 pub compose-spec : {M : Type 1} → statement M
 compose-spec =

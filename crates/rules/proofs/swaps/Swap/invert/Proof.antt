@@ -1,3 +1,8 @@
+use Rattle.rules.proofs.SwapCallLaws.{verdict-passed, swap-whole, given-refused, given-fine}
+use Rattle.rules.specs.SwapCalls.{swapOf, inverted}
+use mathlib.Core.Path.{_≡_, refl, sym, ap, ap₂, _∙_}
+use mathlib.Core.List.{List}
+use Prim.Native.Nat.{ℕ}
 use borrow.Author.Needs.{needs}
 use Rattle.rules.proofs.swaps.Swap.invert.Statement.{statement}
 use Rattle.rules.proofs.swaps.Swap.invert.Tie as tie
@@ -21,7 +26,7 @@ refused-swap-requires c κs = search needs
 
 -- src/swaps.rt:312:13
 returns : tie.Need-returns
-returns c = ?
+returns c = given-refused 64 _ _ _ (c .before .before .before .before .swap-verdict .ensures) _ (c .before .before .v .given .1) (c .refused-swap .ensures)
 
 enum-told : tie.Need-enum-told
 enum-told c = search needs
@@ -32,11 +37,12 @@ cast-inverse-places c = search needs
 
 -- src/swaps.rt:314:13
 inverse-places-requires : tie.Need-inverse-places-requires
-inverse-places-requires c κs = ?
+inverse-places-requires c κs = swap-whole 64 _ (verdict-passed _ _ (c .before .before .before .swap-verdict .ensures) (c .before .enum-told .given .1)) .most
 
 -- src/swaps.rt:305:5
 returns-2 : tie.Need-returns-2
-returns-2 c = ?
+unfolding inverted
+returns-2 c = given-fine 64 _ _ _ (c .before .before .before .before .swap-verdict .ensures) _ _ (c .before .before .enum-told .given .1) (ap (λ (l : List ℕ). swapOf l (c .before .before .before .before .before .before .before .args .self .width)) (c .inverse-places .ensures))
 
 pub invert-spec : {M : Type 1} → statement M
 invert-spec =

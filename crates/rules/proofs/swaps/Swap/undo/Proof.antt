@@ -1,3 +1,12 @@
+use Rattle.rules.proofs.SwapCallLaws.{verdict-passed, header-whole}
+use Rattle.rules.proofs.ReplyLaws.{fine-next, refused-stop}
+use Rattle.rules.specs.SwapCalls.{undoneHeader}
+use mathlib.Core.Path.{_≡_, refl, sym, ap, ap₂, _∙_}
+use mathlib.Core.List.{[], _∷_, List}
+use Prim.Native.Nat.{ℕ}
+use Rattle.rules.specs.Replies.{Gives}
+use Rattle.rules.specs.Swaps.{moved, good}
+use Rattle.rules.proofs.MoveLaws.{inverse-good}
 use borrow.Author.Needs.{needs}
 use Rattle.rules.proofs.swaps.Swap.undo.Statement.{statement}
 use Rattle.rules.proofs.swaps.Swap.undo.Tie as tie
@@ -17,7 +26,8 @@ enum-known-v c = search needs
 
 -- src/swaps.rt:298:13
 returns : tie.Need-returns
-returns c = ?
+unfolding undoneHeader
+returns c = sym (refused-stop _ _ _ (c .before .before .before .swap-header-verdict .ensures) (c .before .v .given .1))
 
 enum-told : tie.Need-enum-told
 enum-told c = search needs
@@ -28,15 +38,16 @@ cast-inverse-places c = search needs
 
 -- src/swaps.rt:300:20
 inverse-places-requires : tie.Need-inverse-places-requires
-inverse-places-requires c κs = ?
+inverse-places-requires c κs = header-whole 64 _ _ (verdict-passed _ _ (c .before .before .before .swap-header-verdict .ensures) (c .before .enum-told .given .1)) .0 .most
 
 -- src/swaps.rt:301:29
 moved-word-requires : tie.Need-moved-word-requires
-moved-word-requires c κs = ?
+moved-word-requires c κs = let g = header-whole 64 _ _ (verdict-passed _ _ (c .before .before .before .before .before .swap-header-verdict .ensures) (c .before .before .before .enum-told .given .1)) .0 in (g .most, ap (good 64 _) (c .before .inverse-places .ensures) ∙ inverse-good 64 _ _ (g .most) (g .places))
 
 -- src/swaps.rt:290:5
 returns-2 : tie.Need-returns-2
-returns-2 c = ?
+unfolding undoneHeader
+returns-2 c = ap (λ (n : ℕ). Gives (n ∷ [])) (c .moved-word .ensures ∙ ap (λ (l : List ℕ). moved (c .before .before .before .before .before .before .before .before .before .args .self .width) l (c .before .before .before .before .before .before .before .before .before .args .header .0)) (c .before .before .inverse-places .ensures)) ∙ sym (fine-next _ _ _ (c .before .before .before .before .before .before .swap-header-verdict .ensures) (c .before .before .before .before .enum-told .given .1))
 
 pub undo-spec : {M : Type 1} → statement M
 undo-spec =
