@@ -14,3 +14,5 @@ pub mod SwapLaws
 pub mod MoveLaws
 pub mod SwapSteps
 pub mod SwapCallLaws
+pub mod SortLaws
+pub mod StarLaws

@@ -9,3 +9,4 @@ pub mod Lists
 pub mod Swaps
 pub mod SwapCalls
 pub mod Prefix
+pub mod Sorting

@@ -70,3 +70,7 @@ pub use swaps::Swapped;
 pub use swaps::ToSwapped;
 pub use swaps::ToWire;
 pub use swaps::lookup_swapped;
+
+mod prefixes;
+
+pub use prefixes::prefix_swap;
