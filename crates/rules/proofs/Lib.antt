@@ -16,3 +16,5 @@ pub mod SwapSteps
 pub mod SwapCallLaws
 pub mod SortLaws
 pub mod StarLaws
+pub mod CrossLaws
+pub mod PrefixSteps
