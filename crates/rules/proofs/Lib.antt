@@ -18,3 +18,4 @@ pub mod SortLaws
 pub mod StarLaws
 pub mod CrossLaws
 pub mod PrefixSteps
+pub mod SwapTheorems

@@ -172,7 +172,7 @@ module _ (size w : ℕ) (ps qs : List ℕ) (u : w ≤ size) (f : Perm size w ps)
 -- ---- the identity
 
 module _ (size w : ℕ) (u : w ≤ size) where
-  identity-at : (k : ℕ) → k < w → getD (identity size w) k 0 ≡ suc k
+  pub identity-at : (k : ℕ) → k < w → getD (identity size w) k 0 ≡ suc k
   unfolding identity
   identity-at k l = filled-at size w suc u k l
 
