@@ -19,3 +19,5 @@ pub mod StarLaws
 pub mod CrossLaws
 pub mod PrefixSteps
 pub mod SwapTheorems
+pub mod SwapCallTheorems
+pub mod SwapUnique

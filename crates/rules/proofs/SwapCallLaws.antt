@@ -17,7 +17,7 @@ use Rattle.rules.specs.Calls.{checkRule}
 use Rattle.rules.specs.Swaps.{good}
 use Rattle.rules.specs.SwapCalls.{swapOf, noSwap, swapIf, SwapGiven, placesCheck, checkSwap, checkSwapRule, checkSwapHeader, checkSwaps}
 use Rattle.rules.proofs.Tests.{eqb-yes}
-use Rattle.rules.proofs.ReplyLaws.{then-next, then-refuses, then-assoc, then-second, fine-next, verdict-stop, need-yes, need-no, need-passed, need-then}
+use Rattle.rules.proofs.ReplyLaws.{then-next, then-refuses, then-assoc, then-second, fine-next, verdict-stop, need-yes, need-no, need-passed, need-then, gives-refuses}
 use Rattle.rules.proofs.CheckLaws.{width-yes, width-no, width-passed, width-then, rule-fine, rule-valid, header-yes, header-no}
 
 -- what a check says that a verdict in hand has passed
@@ -178,3 +178,34 @@ module _ (size : ℕ) (check : Reply) (s : Swap) (v : Verdict) (e : verdictReply
 pub rule-most : (w l i : ℕ) (r : Rule) (v : Verdict) → verdictReply v ≡ checkRule w l i r → v ≡ Verdict.Fine → w ≤ 64
 unfolding checkRule
 rule-most w l i r v e f = width-passed w (width-then w _ [] (verdict-passed v _ e f)) .1
+
+-- ---- the checks give no values
+
+-- the first of two replies of which the second is reached gives something
+pub first-gives : (a b : Reply) (ns : List ℕ) → (a then b) ≡ Gives ns → (ms : List ℕ) × (a ≡ Gives ms)
+first-gives (Gives ms) b ns e = (ms, refl)
+first-gives (Refuses n l r) b ns e = absurd (gives-refuses (sym e))
+
+need-plain : (t : Bool) (n l r : ℕ) (ns : List ℕ) → need t n l r ≡ Gives ns → need t n l r ≡ passed
+need-plain true n l r ns e = refl
+need-plain false n l r ns e = absurd (gives-refuses (sym e))
+
+places-plain : (size : ℕ) (s : Swap) (ns : List ℕ) → placesCheck size s ≡ Gives ns → placesCheck size s ≡ passed
+unfolding placesCheck
+places-plain size s ns e = need-plain (good size (s .width) (s .places)) 9 0 0 ns e
+
+-- a header's checks before a reply that gives values are passed
+pub checks-plain-header : (size : ℕ) (s : Swap) (h : ℕ) (b : Reply) (ns : List ℕ) → (checkSwapHeader size s h then b) ≡ Gives ns → checkSwapHeader size s h ≡ passed
+unfolding checkSwapHeader
+checks-plain-header size s h b ns e =
+    let f = first-gives (checkSwapHeader size s h) b ns e in
+    let g = then-second (headerCheck (s .width) h) _ (f .0) (then-second (widthCheck (s .width)) _ (f .0) (f .1)) in
+    f .1 ∙ sym g ∙ places-plain size s (f .0) g
+
+-- a rule's checks before a reply that gives values are passed
+pub checks-plain-rule : (size : ℕ) (s : Swap) (r : Rule) (b : Reply) (ns : List ℕ) → (checkSwapRule size s r then b) ≡ Gives ns → checkSwapRule size s r ≡ passed
+unfolding checkSwapRule
+checks-plain-rule size s r b ns e =
+    let f = first-gives (checkSwapRule size s r) b ns e in
+    let g = then-second (checkRule (s .width) 1 1 r) _ (f .0) (f .1) in
+    f .1 ∙ sym g ∙ places-plain size s (f .0) g

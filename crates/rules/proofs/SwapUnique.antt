@@ -1,0 +1,105 @@
+-- The promises of the calls on bit-swaps leave no second result: two results that both meet a call's contract are equal.
+use mathlib.Core.Path.{_≡_, refl, sym, ap, ap₂, _∙_}
+use mathlib.Core.List.{List, [], _∷_}
+use Prim.Native.Nat.{ℕ}
+use native.Mathlib.Omega.{arith}
+use Rattle.rules.specs.declared.Rule.{Rule}
+use Rattle.rules.specs.declared.Looked.{Looked}
+use Rattle.rules.specs.declared.Verdict.{Verdict}
+use Rattle.rules.specs.declared.Wire.{Wire}
+use Rattle.rules.specs.declared.swaps.Swapped.{Swapped}
+use Rattle.rules.specs.declared.swaps.Swap.{Swap}
+use Rattle.rules.specs.declared.swaps.MovedRule.{MovedRule}
+use Rattle.rules.specs.declared.swaps.ToSwapped.{ToSwapped}
+use Rattle.rules.specs.declared.swaps.ToWire.{ToWire}
+use Rattle.rules.specs.declared.swaps.SwapAnswer.{SwapAnswer}
+use Rattle.rules.specs.Replies.{Reply, Gives, refusalReply, lookedReply}
+use Rattle.rules.specs.Slices.{rulesOf}
+use Rattle.rules.specs.Calls.{lookedUp}
+use Rattle.rules.specs.SwapCalls.{ruleNumbers, movedRuleReply, toSwappedReply, toWireReply, SwapGiven, checkSwap, checkSwaps, appliedRule, appliedHeader, undoneHeader, inverted, joined}
+use Rattle.rules.specs.Prefix.{checkPrefix, prefixSwap}
+use Rattle.rules.proofs.ReplyLaws.{gives-refuses, one-refusal, one-verdict}
+use Rattle.rules.proofs.SwapCallTheorems.{same-numbers}
+
+-- ---- one answer for each reply
+
+pub one-moved-rule : (a b : MovedRule) → movedRuleReply a ≡ movedRuleReply b → a ≡ b
+one-moved-rule (MovedRule.Moved q) (MovedRule.Moved r) e = ap MovedRule.Moved (same-numbers e)
+one-moved-rule (MovedRule.Moved q) (MovedRule.Refused y) e = absurd (gives-refuses e)
+one-moved-rule (MovedRule.Refused x) (MovedRule.Moved r) e = absurd (gives-refuses (sym e))
+one-moved-rule (MovedRule.Refused x) (MovedRule.Refused y) e = ap MovedRule.Refused (one-refusal x y e)
+
+swapped : ℕ → Swapped
+swapped n = record { 0 = n }
+
+wire : ℕ → Wire
+wire n = record { 0 = n }
+
+pub one-to-swapped : (a b : ToSwapped) → toSwappedReply a ≡ toSwappedReply b → a ≡ b
+unfolding swapped
+one-to-swapped (ToSwapped.Header h) (ToSwapped.Header k) e = ap (λ (n : ℕ). ToSwapped.Header (swapped n)) (let q : h .0 ≡ k .0 = cc in q)
+one-to-swapped (ToSwapped.Header h) (ToSwapped.Refused y) e = absurd (gives-refuses e)
+one-to-swapped (ToSwapped.Refused x) (ToSwapped.Header k) e = absurd (gives-refuses (sym e))
+one-to-swapped (ToSwapped.Refused x) (ToSwapped.Refused y) e = ap ToSwapped.Refused (one-refusal x y e)
+
+pub one-to-wire : (a b : ToWire) → toWireReply a ≡ toWireReply b → a ≡ b
+unfolding wire
+one-to-wire (ToWire.Header h) (ToWire.Header k) e = ap (λ (n : ℕ). ToWire.Header (wire n)) (let q : h .0 ≡ k .0 = cc in q)
+one-to-wire (ToWire.Header h) (ToWire.Refused y) e = absurd (gives-refuses e)
+one-to-wire (ToWire.Refused x) (ToWire.Header k) e = absurd (gives-refuses (sym e))
+one-to-wire (ToWire.Refused x) (ToWire.Refused y) e = ap ToWire.Refused (one-refusal x y e)
+
+answerOf : Verdict → Swap → SwapAnswer
+answerOf v s = record { verdict = v; swap = s }
+
+pub one-swap-given : (size : ℕ) (check : Reply) (s : Swap) (a b : SwapAnswer) → SwapGiven size check s a → SwapGiven size check s b → a ≡ b
+unfolding answerOf
+one-swap-given size check s a b p q =
+    ap₂ answerOf (one-verdict (a .verdict) (b .verdict) (p .verdict ∙ sym (q .verdict))) (p .swap ∙ sym (q .swap))
+
+found-miss : {d : ℕ} → Gives (d ∷ []) ≡ Gives [] → ⊥
+found-miss {d} e = let z : _≡_ {A = ℕ} 0 1 = cc in omega arith
+
+one-found : (a b : Looked) → lookedReply a ≡ lookedReply b → a ≡ b
+one-found (Looked.Decision d) (Looked.Decision e) p = ap Looked.Decision (let q : d ≡ e = cc in q)
+one-found (Looked.Decision d) Looked.Miss p = absurd (found-miss p)
+one-found (Looked.Decision d) (Looked.Refused y) p = absurd (gives-refuses p)
+one-found Looked.Miss (Looked.Decision e) p = absurd (found-miss (sym p))
+one-found Looked.Miss Looked.Miss p = refl
+one-found Looked.Miss (Looked.Refused y) p = absurd (gives-refuses p)
+one-found (Looked.Refused x) (Looked.Decision e) p = absurd (gives-refuses (sym p))
+one-found (Looked.Refused x) Looked.Miss p = absurd (gives-refuses (sym p))
+one-found (Looked.Refused x) (Looked.Refused y) p = ap Looked.Refused (one-refusal x y p)
+
+-- ---- one result for each call
+
+-- `apply_rule` has one result
+pub unique-apply-rule : (s : Swap) (r : Rule) (a b : MovedRule) → movedRuleReply a ≡ appliedRule 64 s r → movedRuleReply b ≡ appliedRule 64 s r → a ≡ b
+unique-apply-rule s r a b p q = one-moved-rule a b (p ∙ sym q)
+
+-- `apply` has one result
+pub unique-apply : (s : Swap) (h : Wire) (a b : ToSwapped) → toSwappedReply a ≡ appliedHeader 64 s (h .0) → toSwappedReply b ≡ appliedHeader 64 s (h .0) → a ≡ b
+unique-apply s h a b p q = one-to-swapped a b (p ∙ sym q)
+
+-- `undo` has one result
+pub unique-undo : (s : Swap) (h : Swapped) (a b : ToWire) → toWireReply a ≡ undoneHeader 64 s (h .0) → toWireReply b ≡ undoneHeader 64 s (h .0) → a ≡ b
+unique-undo s h a b p q = one-to-wire a b (p ∙ sym q)
+
+-- `invert` has one result
+pub unique-invert : (s : Swap) (a b : SwapAnswer) → SwapGiven 64 (checkSwap 64 s) (inverted 64 s) a → SwapGiven 64 (checkSwap 64 s) (inverted 64 s) b → a ≡ b
+unique-invert s a b p q = one-swap-given 64 _ _ a b p q
+
+-- `compose` has one result
+pub unique-compose : (s t : Swap) (a b : SwapAnswer) → SwapGiven 64 (checkSwaps 64 s t) (joined 64 s t) a → SwapGiven 64 (checkSwaps 64 s t) (joined 64 s t) b → a ≡ b
+unique-compose s t a b p q = one-swap-given 64 _ _ a b p q
+
+-- `prefix_swap` has one result
+pub unique-prefix-swap : (w : ℕ) (cs vs ds : List ℕ) (a b : SwapAnswer)
+    → SwapGiven 64 (checkPrefix w cs vs ds) (prefixSwap 64 w (rulesOf cs vs ds)) a
+    → SwapGiven 64 (checkPrefix w cs vs ds) (prefixSwap 64 w (rulesOf cs vs ds)) b → a ≡ b
+unique-prefix-swap w cs vs ds a b p q = one-swap-given 64 _ _ a b p q
+
+-- `lookup_swapped` has one result
+pub unique-lookup-swapped : (w : ℕ) (cs vs ds : List ℕ) (h : Swapped) (a b : Looked)
+    → lookedReply a ≡ lookedUp w cs vs ds (h .0) → lookedReply b ≡ lookedUp w cs vs ds (h .0) → a ≡ b
+unique-lookup-swapped w cs vs ds h a b p q = one-found a b (p ∙ sym q)
