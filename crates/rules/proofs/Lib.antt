@@ -21,3 +21,4 @@ pub mod PrefixSteps
 pub mod SwapTheorems
 pub mod SwapCallTheorems
 pub mod SwapUnique
+pub mod PrefixTheorems

@@ -48,6 +48,18 @@ rule-places w ps r k l = (moved-bit w ps (r .care) k l, moved-bit w ps (r .value
 
 -- ---- the inverse
 
+pub inverse-length : (size w : ℕ) (qs : List ℕ) → length (inverse size w qs) ≡ size
+unfolding inverse
+inverse-length size w qs = filled-length size w _
+
+composed-length : (size w : ℕ) (xs ys : List ℕ) → length (composed size w xs ys) ≡ size
+unfolding composed
+composed-length size w xs ys = filled-length size w _
+
+pub identity-length : (size w : ℕ) → length (identity size w) ≡ size
+unfolding identity
+identity-length size w = filled-length size w suc
+
 module _ (size w : ℕ) (ps : List ℕ) (u : w ≤ size) (g : good size w ps ≡ true) where
   perm : Perm size w ps
   perm = good-perm size w ps u g
@@ -70,24 +82,12 @@ module _ (size w : ℕ) (ps : List ℕ) (u : w ≤ size) (g : good size w ps ≡
   unfolding movedRule
   rule-redone r v = same-rule _ _ (r .decision) _ _ (header-redone (r .care) (v .fits)) (header-redone (r .value) (value-below w r v))
 
-  inverse-length : (qs : List ℕ) → length (inverse size w qs) ≡ size
-  unfolding inverse
-  inverse-length qs = filled-length size w _
-
-  composed-length : (xs ys : List ℕ) → length (composed size w xs ys) ≡ size
-  unfolding composed
-  composed-length xs ys = filled-length size w _
-
-  identity-length : length (identity size w) ≡ size
-  unfolding identity
-  identity-length = filled-length size w suc
-
   -- the inverse of the inverse is the swap itself
   pub inverse-twice : length ps ≡ size → inverse size w (inverse size w ps) ≡ ps
   inverse-twice n =
-      ext-getD 0 _ ps (inverse-length (inverse size w ps) ∙ sym n)
+      ext-getD 0 _ ps (inverse-length size w (inverse size w ps) ∙ sym n)
       (λ k l.
-      let m : k < size = omega (arith, inverse-length (inverse size w ps)) in
+      let m : k < size = omega (arith, inverse-length size w (inverse size w ps)) in
       let back : Perm size w (inverse size w ps) = inverse-perm size w ps u perm in
       split (ltb k w)
       (λ x.
@@ -102,9 +102,9 @@ module _ (size w : ℕ) (ps : List ℕ) (u : w ≤ size) (g : good size w ps ≡
   -- the swap and then its inverse is 1, 2, .., w
   pub composed-inverse : composed size w ps (inverse size w ps) ≡ identity size w
   composed-inverse =
-      ext-getD 0 _ _ (composed-length ps (inverse size w ps) ∙ sym identity-length)
+      ext-getD 0 _ _ (composed-length size w ps (inverse size w ps) ∙ sym (identity-length size w))
       (λ k l.
-      let m : k < size = omega (arith, composed-length ps (inverse size w ps)) in
+      let m : k < size = omega (arith, composed-length size w ps (inverse size w ps)) in
       let back : Perm size w (inverse size w ps) = inverse-perm size w ps u perm in
       split (ltb k w)
       (λ x.
@@ -120,9 +120,9 @@ module _ (size w : ℕ) (ps : List ℕ) (u : w ≤ size) (g : good size w ps ≡
   -- the inverse and then the swap is 1, 2, .., w
   pub inverse-composed : composed size w (inverse size w ps) ps ≡ identity size w
   inverse-composed =
-      ext-getD 0 _ _ (composed-length (inverse size w ps) ps ∙ sym identity-length)
+      ext-getD 0 _ _ (composed-length size w (inverse size w ps) ps ∙ sym (identity-length size w))
       (λ k l.
-      let m : k < size = omega (arith, composed-length (inverse size w ps) ps) in
+      let m : k < size = omega (arith, composed-length size w (inverse size w ps) ps) in
       let back : Perm size w (inverse size w ps) = inverse-perm size w ps u perm in
       split (ltb k w)
       (λ x.
