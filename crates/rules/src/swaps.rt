@@ -292,13 +292,13 @@ impl Swap {
     {
         let places = self.places;
         let width = self.width;
-        let word = header.0;
-        let v = swap_header_verdict(&places, width, word);
+        let swapped = header.0;
+        let v = swap_header_verdict(&places, width, swapped);
         if let Verdict::Refused(x) = v {
             return ToWire::Refused(x);
         }
         let back = inverse_places(&places, width as usize);
-        ToWire::Header(Wire(moved_word(&back, width, word)))
+        ToWire::Header(Wire(moved_word(&back, width, swapped)))
     }
 
     // The swap that undoes this one.
