@@ -1,23 +1,21 @@
 -- The search for a crossing pair: what it finds, and the steps of the code that makes it.
 use mathlib.Core.Path.{_≡_, refl, sym, ap, _∙_, subst}
 use mathlib.Core.Logic.{_⊎_, inl, inr, ⊎-elim, _≢_}
-use mathlib.Core.List.{List, []}
+use mathlib.Core.List.{List}
 use mathlib.Core.Bool.{Bool, true, false, not}
 use Prim.Native.Nat.{ℕ, zero, suc, _+_, _-_, _≤_, _<_}
 use native.Mathlib.Numerals.{add-one}
 use native.Mathlib.Omega.{arith}
-use lib.Dec.{eqb, ltb}
-use lib.ListN.{length}
-use borrow.Author.Tests.{ltb-true, ltb-false}
+use lib.Dec.{eqb}
 use Rattle.rules.specs.declared.Rule.{Rule}
 use Rattle.rules.specs.declared.Refusal.{Refusal}
 use Rattle.rules.specs.declared.Verdict.{Verdict}
 use Rattle.rules.specs.Rules.{crosses}
 use Rattle.rules.specs.Slices.{ruleAt}
-use Rattle.rules.specs.Replies.{Reply, Gives, Refuses, passed, need, _then_, refusalReply, verdictReply}
-use Rattle.rules.specs.Prefix.{crossesWith, crossesAmong, crossCheck}
+use Rattle.rules.specs.Replies.{Reply, Gives, Refuses, passed, need, _then_, verdictReply}
+use Rattle.rules.specs.Prefix.{crossesWith, crossesAmong}
 use Rattle.rules.proofs.Tests.{split, eqb-yes, no-eqb}
-use Rattle.rules.proofs.ReplyLaws.{then-next, then-refuses, then-second, fine-next, gives-refuses, need-yes, need-no}
+use Rattle.rules.proofs.ReplyLaws.{then-next, then-refuses, gives-refuses, need-yes, need-no}
 
 -- ---- replies
 

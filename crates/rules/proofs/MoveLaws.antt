@@ -9,7 +9,7 @@ use lib.Bits.{bitAnd, and-le-l, and-le-r}
 use lib.ListN.{getD}
 use Rattle.rules.specs.declared.Rule.{Rule}
 use Rattle.rules.specs.Words.{placeBit}
-use Rattle.rules.specs.Rules.{choose, matches, first, answer, noMatch, Valid}
+use Rattle.rules.specs.Rules.{choose, matches, first, Valid}
 use Rattle.rules.specs.Lists.{All}
 use Rattle.rules.specs.Swaps.{moved, movedRule, movedList, seat, good, inverse, composed, identity}
 use Rattle.rules.proofs.Tests.{eqb-yes, yes-eqb, same-test}

@@ -1,23 +1,22 @@
 -- The same of the calls: what one call of a swap gives, another takes back, and two calls make one.
-use mathlib.Core.Path.{_≡_, refl, sym, ap, ap₂, _∙_, subst}
+use mathlib.Core.Path.{_≡_, sym, ap, _∙_, subst}
 use mathlib.Core.List.{List, [], _∷_}
-use mathlib.Core.Bool.{Bool, true, _&&_}
+use mathlib.Core.Bool.{true, _&&_}
 use Prim.Native.Nat.{ℕ, _^_, _≤_, _<_}
-use native.Mathlib.Omega.{arith}
-use lib.Dec.{leb, ltb}
+use lib.Dec.{leb}
 use borrow.Author.Tests.{lt-ltb, le-leb}
 use Rattle.rules.specs.declared.Rule.{Rule}
 use Rattle.rules.specs.declared.swaps.Swap.{Swap}
 use Rattle.rules.specs.Rules.{rule, Valid}
-use Rattle.rules.specs.Replies.{Reply, Gives, Refuses, passed, _then_}
+use Rattle.rules.specs.Replies.{Gives, passed, _then_}
 use Rattle.rules.specs.Calls.{checkRule}
-use Rattle.rules.specs.Swaps.{moved, movedRule, good, inverse, composed}
-use Rattle.rules.specs.SwapCalls.{ruleNumbers, checkSwap, checkSwapRule, checkSwapHeader, checkSwaps, appliedRule, appliedHeader, undoneHeader, inverted, joined}
+use Rattle.rules.specs.Swaps.{moved, movedRule, inverse}
+use Rattle.rules.specs.SwapCalls.{ruleNumbers, checkSwapRule, checkSwapHeader, checkSwaps, appliedRule, appliedHeader, undoneHeader, inverted, joined}
 use Rattle.rules.proofs.Tests.{true-and}
 use Rattle.rules.proofs.ReplyLaws.{then-next, then-second}
 use Rattle.rules.proofs.CheckLaws.{valid-rule, width-yes}
 use Rattle.rules.proofs.MoveLaws.{moved-lt, valid-moved, inverse-good, composed-good}
-use Rattle.rules.proofs.SwapCallLaws.{Whole, Together, header-whole, rule-whole, swap-whole, swaps-together, together-good, places-yes, header-nine, whole-swap, checks-plain-header, checks-plain-rule}
+use Rattle.rules.proofs.SwapCallLaws.{Whole, Together, header-whole, rule-whole, swaps-together, together-good, places-yes, header-nine, checks-plain-header, checks-plain-rule}
 use Rattle.rules.proofs.SwapTheorems.{header-undone, header-redone, rule-undone, header-composed, rule-composed}
 
 one-word : {m n : ℕ} → Gives (m ∷ []) ≡ Gives (n ∷ []) → m ≡ n

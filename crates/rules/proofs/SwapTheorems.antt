@@ -1,32 +1,28 @@
 -- What is proved of bit-swaps, over any width and any size of the array: moving, undoing, composing, and what a moved
 -- header gets in a moved list.
 use mathlib.Core.Path.{_≡_, refl, sym, ap, ap₂, _∙_, subst}
-use mathlib.Core.Logic.{_≢_}
 use mathlib.Core.List.{List, [], _∷_, map}
-use mathlib.Core.Bool.{Bool, true, false, _&&_}
+use mathlib.Core.Bool.{true}
 use Prim.Native.Nat.{ℕ, suc, _-_, _^_, _≤_, _<_}
 use native.Mathlib.Omega.{arith}
-use lib.Dec.{leb, ltb}
+use lib.Dec.{ltb}
 use lib.ListN.{length, getD, length-map}
 use lib.Seq.{ext-getD}
-use borrow.Author.Tests.{lt-ltb, le-leb, ltb-true, ltb-false}
+use borrow.Author.Tests.{lt-ltb, ltb-true, ltb-false}
 use Rattle.rules.specs.declared.Rule.{Rule}
-use Rattle.rules.specs.declared.swaps.Swap.{Swap}
 use Rattle.rules.specs.Words.{placeBit}
 use Rattle.rules.specs.Rules.{rule, answer, noMatch, Valid}
-use Rattle.rules.specs.Slices.{rulesOf, Lent}
+use Rattle.rules.specs.Slices.{rulesOf}
 use Rattle.rules.specs.Lists.{All}
-use Rattle.rules.specs.Replies.{Reply, Gives, Refuses, passed, _then_}
-use Rattle.rules.specs.Calls.{checkRule, checkList, answered, lookedUp}
-use Rattle.rules.specs.Swaps.{moved, movedRule, movedList, good, filled, inverse, composed, identity}
-use Rattle.rules.specs.SwapCalls.{ruleNumbers, swapOf, placesCheck, checkSwap, checkSwapRule, checkSwapHeader, checkSwaps, appliedRule, appliedHeader, undoneHeader, inverted, joined}
-use Rattle.rules.proofs.Tests.{split, true-and}
+use Rattle.rules.specs.Replies.{passed, _then_}
+use Rattle.rules.specs.Calls.{checkList, answered, lookedUp}
+use Rattle.rules.specs.Swaps.{moved, movedRule, movedList, good, inverse, composed, identity}
+use Rattle.rules.proofs.Tests.{split}
 use Rattle.rules.proofs.PlaceLaws.{careAt, valueAt}
-use Rattle.rules.proofs.ReplyLaws.{then-next, then-second}
-use Rattle.rules.proofs.CheckLaws.{Sound, list-sound, sound-list, valid-rule, width-yes, header-yes}
-use Rattle.rules.proofs.SwapLaws.{Perm, good-perm, filled-length, filled-past}
-use Rattle.rules.proofs.MoveLaws.{moved-lt, moved-bit, value-below, valid-moved, first-moved, inverse-at, inverse-of, inverse-perm, undo, redo, composed-at, composed-perm, composed-moved, identity-perm, identity-at, inverse-good, composed-good}
-use Rattle.rules.proofs.SwapCallLaws.{Whole, Together, swap-whole, header-whole, rule-whole, swaps-together, together-good, places-yes, header-nine, whole-swap}
+use Rattle.rules.proofs.ReplyLaws.{then-next}
+use Rattle.rules.proofs.CheckLaws.{Sound, list-sound, sound-list, header-yes}
+use Rattle.rules.proofs.SwapLaws.{Perm, good-perm, filled-length}
+use Rattle.rules.proofs.MoveLaws.{moved-lt, moved-bit, value-below, valid-moved, first-moved, inverse-at, inverse-of, inverse-perm, undo, redo, composed-at, composed-perm, composed-moved, identity-perm, identity-at}
 
 -- a rule from equal words
 same-rule : (c v d c′ v′ : ℕ) → c ≡ c′ → v ≡ v′ → rule c v d ≡ rule c′ v′ d

@@ -1,8 +1,7 @@
--- The promises of the calls on bit-swaps leave no second result: two results that both meet a call's contract are equal.
-use mathlib.Core.Path.{_≡_, refl, sym, ap, ap₂, _∙_}
-use mathlib.Core.List.{List, [], _∷_}
+-- No second result: for each public call on bit-swaps, two results that meet its promise are equal.
+use mathlib.Core.Path.{_≡_, sym, ap, ap₂, _∙_}
+use mathlib.Core.List.{List}
 use Prim.Native.Nat.{ℕ}
-use native.Mathlib.Omega.{arith}
 use Rattle.rules.specs.declared.Rule.{Rule}
 use Rattle.rules.specs.declared.Looked.{Looked}
 use Rattle.rules.specs.declared.Verdict.{Verdict}
@@ -13,12 +12,12 @@ use Rattle.rules.specs.declared.swaps.MovedRule.{MovedRule}
 use Rattle.rules.specs.declared.swaps.ToSwapped.{ToSwapped}
 use Rattle.rules.specs.declared.swaps.ToWire.{ToWire}
 use Rattle.rules.specs.declared.swaps.SwapAnswer.{SwapAnswer}
-use Rattle.rules.specs.Replies.{Reply, Gives, refusalReply, lookedReply}
+use Rattle.rules.specs.Replies.{Reply, lookedReply}
 use Rattle.rules.specs.Slices.{rulesOf}
 use Rattle.rules.specs.Calls.{lookedUp}
-use Rattle.rules.specs.SwapCalls.{ruleNumbers, movedRuleReply, toSwappedReply, toWireReply, SwapGiven, checkSwap, checkSwaps, appliedRule, appliedHeader, undoneHeader, inverted, joined}
+use Rattle.rules.specs.SwapCalls.{movedRuleReply, toSwappedReply, toWireReply, SwapGiven, checkSwap, checkSwaps, appliedRule, appliedHeader, undoneHeader, inverted, joined}
 use Rattle.rules.specs.Prefix.{checkPrefix, prefixSwap}
-use Rattle.rules.proofs.ReplyLaws.{gives-refuses, one-refusal, one-verdict}
+use Rattle.rules.proofs.ReplyLaws.{gives-refuses, one-refusal, one-verdict, one-looked}
 use Rattle.rules.proofs.SwapCallTheorems.{same-numbers}
 
 -- ---- one answer for each reply
@@ -57,49 +56,35 @@ unfolding answerOf
 one-swap-given size check s a b p q =
     ap₂ answerOf (one-verdict (a .verdict) (b .verdict) (p .verdict ∙ sym (q .verdict))) (p .swap ∙ sym (q .swap))
 
-found-miss : {d : ℕ} → Gives (d ∷ []) ≡ Gives [] → ⊥
-found-miss {d} e = let z : _≡_ {A = ℕ} 0 1 = cc in omega arith
-
-one-found : (a b : Looked) → lookedReply a ≡ lookedReply b → a ≡ b
-one-found (Looked.Decision d) (Looked.Decision e) p = ap Looked.Decision (let q : d ≡ e = cc in q)
-one-found (Looked.Decision d) Looked.Miss p = absurd (found-miss p)
-one-found (Looked.Decision d) (Looked.Refused y) p = absurd (gives-refuses p)
-one-found Looked.Miss (Looked.Decision e) p = absurd (found-miss (sym p))
-one-found Looked.Miss Looked.Miss p = refl
-one-found Looked.Miss (Looked.Refused y) p = absurd (gives-refuses p)
-one-found (Looked.Refused x) (Looked.Decision e) p = absurd (gives-refuses (sym p))
-one-found (Looked.Refused x) Looked.Miss p = absurd (gives-refuses (sym p))
-one-found (Looked.Refused x) (Looked.Refused y) p = ap Looked.Refused (one-refusal x y p)
-
 -- ---- one result for each call
 
--- `apply_rule` has one result
-pub unique-apply-rule : (s : Swap) (r : Rule) (a b : MovedRule) → movedRuleReply a ≡ appliedRule 64 s r → movedRuleReply b ≡ appliedRule 64 s r → a ≡ b
-unique-apply-rule s r a b p q = one-moved-rule a b (p ∙ sym q)
+-- `apply_rule`
+pub apply-rule-once : (s : Swap) (r : Rule) (a b : MovedRule) → movedRuleReply a ≡ appliedRule 64 s r → movedRuleReply b ≡ appliedRule 64 s r → a ≡ b
+apply-rule-once s r a b p q = one-moved-rule a b (p ∙ sym q)
 
--- `apply` has one result
-pub unique-apply : (s : Swap) (h : Wire) (a b : ToSwapped) → toSwappedReply a ≡ appliedHeader 64 s (h .0) → toSwappedReply b ≡ appliedHeader 64 s (h .0) → a ≡ b
-unique-apply s h a b p q = one-to-swapped a b (p ∙ sym q)
+-- `apply`
+pub apply-once : (s : Swap) (h : Wire) (a b : ToSwapped) → toSwappedReply a ≡ appliedHeader 64 s (h .0) → toSwappedReply b ≡ appliedHeader 64 s (h .0) → a ≡ b
+apply-once s h a b p q = one-to-swapped a b (p ∙ sym q)
 
--- `undo` has one result
-pub unique-undo : (s : Swap) (h : Swapped) (a b : ToWire) → toWireReply a ≡ undoneHeader 64 s (h .0) → toWireReply b ≡ undoneHeader 64 s (h .0) → a ≡ b
-unique-undo s h a b p q = one-to-wire a b (p ∙ sym q)
+-- `undo`
+pub undo-once : (s : Swap) (h : Swapped) (a b : ToWire) → toWireReply a ≡ undoneHeader 64 s (h .0) → toWireReply b ≡ undoneHeader 64 s (h .0) → a ≡ b
+undo-once s h a b p q = one-to-wire a b (p ∙ sym q)
 
--- `invert` has one result
-pub unique-invert : (s : Swap) (a b : SwapAnswer) → SwapGiven 64 (checkSwap 64 s) (inverted 64 s) a → SwapGiven 64 (checkSwap 64 s) (inverted 64 s) b → a ≡ b
-unique-invert s a b p q = one-swap-given 64 _ _ a b p q
+-- `invert`
+pub invert-once : (s : Swap) (a b : SwapAnswer) → SwapGiven 64 (checkSwap 64 s) (inverted 64 s) a → SwapGiven 64 (checkSwap 64 s) (inverted 64 s) b → a ≡ b
+invert-once s a b p q = one-swap-given 64 _ _ a b p q
 
--- `compose` has one result
-pub unique-compose : (s t : Swap) (a b : SwapAnswer) → SwapGiven 64 (checkSwaps 64 s t) (joined 64 s t) a → SwapGiven 64 (checkSwaps 64 s t) (joined 64 s t) b → a ≡ b
-unique-compose s t a b p q = one-swap-given 64 _ _ a b p q
+-- `compose`
+pub compose-once : (s t : Swap) (a b : SwapAnswer) → SwapGiven 64 (checkSwaps 64 s t) (joined 64 s t) a → SwapGiven 64 (checkSwaps 64 s t) (joined 64 s t) b → a ≡ b
+compose-once s t a b p q = one-swap-given 64 _ _ a b p q
 
--- `prefix_swap` has one result
-pub unique-prefix-swap : (w : ℕ) (cs vs ds : List ℕ) (a b : SwapAnswer)
+-- `prefix_swap`
+pub prefix-swap-once : (w : ℕ) (cs vs ds : List ℕ) (a b : SwapAnswer)
     → SwapGiven 64 (checkPrefix w cs vs ds) (prefixSwap 64 w (rulesOf cs vs ds)) a
     → SwapGiven 64 (checkPrefix w cs vs ds) (prefixSwap 64 w (rulesOf cs vs ds)) b → a ≡ b
-unique-prefix-swap w cs vs ds a b p q = one-swap-given 64 _ _ a b p q
+prefix-swap-once w cs vs ds a b p q = one-swap-given 64 _ _ a b p q
 
--- `lookup_swapped` has one result
-pub unique-lookup-swapped : (w : ℕ) (cs vs ds : List ℕ) (h : Swapped) (a b : Looked)
+-- `lookup_swapped`
+pub lookup-swapped-once : (w : ℕ) (cs vs ds : List ℕ) (h : Swapped) (a b : Looked)
     → lookedReply a ≡ lookedUp w cs vs ds (h .0) → lookedReply b ≡ lookedUp w cs vs ds (h .0) → a ≡ b
-unique-lookup-swapped w cs vs ds h a b p q = one-found a b (p ∙ sym q)
+lookup-swapped-once w cs vs ds h a b p q = one-looked a b (p ∙ sym q)

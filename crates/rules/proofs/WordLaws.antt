@@ -1,11 +1,11 @@
 -- Laws of words that are built bit by bit from the left.
-use mathlib.Core.Path.{_≡_, refl, sym, ap, ap₂, _∙_, subst}
-use Prim.Native.Nat.{ℕ, zero, suc, _+_, _-_, _*_, _/_, _%_, _^_, _≤_, _<_}
+use mathlib.Core.Path.{_≡_, refl, sym, ap, _∙_, subst}
+use Prim.Native.Nat.{ℕ, zero, suc, _+_, _-_, _*_, _/_, _%_, _^_, _<_}
 use native.Mathlib.Nat.{pow-suc, pow-succ', div-div-eq-div-mul, div-one}
 use native.Mathlib.Omega.{arith}
 use Rattle.rules.specs.Words.{placeBit}
 use Rattle.rules.specs.Swaps.{word}
-use Rattle.rules.proofs.PlaceLaws.{Place, same-words}
+use Rattle.rules.proofs.PlaceLaws.{same-words}
 
 pub word-suc : (k : ℕ) (f : ℕ → ℕ) → word (suc k) f ≡ word k f * 2 + f k
 unfolding word

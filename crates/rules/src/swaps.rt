@@ -4,7 +4,7 @@ ghost use mathlib.Core.Path.{_≡_};
 ghost use mathlib.Core.Bool.{true};
 ghost use Prim.Native.Nat.{_≤_, _<_};
 ghost use Rattle.rules.specs.Words.{placeBit};
-ghost use Rattle.rules.specs.Swaps.{moved, movedRule, times, seat, entryGood, good, inverse, composed};
+ghost use Rattle.rules.specs.Swaps.{moved, times, seat, entryGood, good, inverse, composed};
 ghost use Rattle.rules.specs.Replies.{verdictReply, lookedReply};
 ghost use Rattle.rules.specs.Calls.{lookedUp};
 ghost use Rattle.rules.specs.SwapCalls.{movedRuleReply, toSwappedReply, toWireReply, swapOf, noSwap, SwapGiven, placesCheck, checkSwap, checkSwapRule, checkSwapHeader, checkSwaps, appliedRule, appliedHeader, undoneHeader, inverted, joined};
@@ -52,6 +52,7 @@ pub struct SwapAnswer {
     pub swap: Swap,
 }
 
+// A place number as a number to count with.
 fn wide(x: u8) -> usize
     ensures { λ r. ⌜ r ≡ x ⌝ }
 {

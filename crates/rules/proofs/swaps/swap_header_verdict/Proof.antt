@@ -1,7 +1,7 @@
 use Rattle.rules.specs.SwapCalls.{swapOf}
 use Rattle.rules.proofs.SwapCallLaws.{header-one, header-six, header-nine}
 use Rattle.rules.proofs.CheckLaws.{width-most}
-use mathlib.Core.Path.{_≡_, refl, sym, ap, ap₂, _∙_}
+use mathlib.Core.Path.{sym, _∙_}
 use borrow.Author.Needs.{needs}
 use Rattle.rules.proofs.swaps.swap_header_verdict.Statement.{statement}
 use Rattle.rules.proofs.swaps.swap_header_verdict.Tie as tie

@@ -1,7 +1,7 @@
 use Rattle.rules.proofs.SwapCallLaws.{rule-most}
 use Rattle.rules.proofs.ReplyLaws.{fine-next, verdict-stop}
 use Rattle.rules.specs.SwapCalls.{checkSwapRule}
-use mathlib.Core.Path.{_≡_, refl, sym, ap, ap₂, _∙_}
+use mathlib.Core.Path.{sym, _∙_}
 use borrow.Author.Needs.{needs}
 use Rattle.rules.proofs.swaps.swap_rule_verdict.Statement.{statement}
 use Rattle.rules.proofs.swaps.swap_rule_verdict.Tie as tie

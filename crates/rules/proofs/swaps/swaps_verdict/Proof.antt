@@ -1,5 +1,5 @@
 use Rattle.rules.proofs.SwapCallLaws.{swaps-first, swaps-second, swaps-same, swaps-unlike}
-use mathlib.Core.Path.{_≡_, refl, sym, ap, ap₂, _∙_}
+use mathlib.Core.Path.{_∙_}
 use borrow.Author.Needs.{needs}
 use Rattle.rules.proofs.swaps.swaps_verdict.Statement.{statement}
 use Rattle.rules.proofs.swaps.swaps_verdict.Tie as tie

@@ -1,7 +1,7 @@
 use Rattle.rules.proofs.SwapCallLaws.{verdict-passed, header-whole}
 use Rattle.rules.proofs.ReplyLaws.{fine-next, refused-stop}
-use Rattle.rules.specs.SwapCalls.{swapOf, appliedHeader}
-use mathlib.Core.Path.{_≡_, refl, sym, ap, ap₂, _∙_}
+use Rattle.rules.specs.SwapCalls.{appliedHeader}
+use mathlib.Core.Path.{sym, ap, _∙_}
 use mathlib.Core.List.{[], _∷_}
 use Prim.Native.Nat.{ℕ}
 use Rattle.rules.specs.Replies.{Gives}

@@ -1,6 +1,6 @@
 use Rattle.rules.proofs.SwapCallLaws.{verdict-passed, swaps-together, together-good, given-refused, given-fine}
 use Rattle.rules.specs.SwapCalls.{swapOf, joined}
-use mathlib.Core.Path.{_≡_, refl, sym, ap, ap₂, _∙_}
+use mathlib.Core.Path.{ap}
 use mathlib.Core.List.{List}
 use Prim.Native.Nat.{ℕ}
 use borrow.Author.Needs.{needs}
