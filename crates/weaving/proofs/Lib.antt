@@ -8,3 +8,7 @@ pub mod ChunkLaws
 pub mod LaidLaws
 pub mod SizeLaws
 pub mod CallLaws
+pub mod Unique
+pub mod Theorems
+pub mod SortLaws
+pub mod Table

@@ -193,10 +193,10 @@ uncovered-free rs p = subst (Pairs Free) (sym (uncovered-sieved rs)) (sieved-fre
 -- ---- step 2
 
 -- the earlier of two rules that match h has fewer stars
-abbrev Before : ℕ → ℕ → Rule → Rule → Type 0
+abbrev pub Before : ℕ → ℕ → Rule → Rule → Type 0
 Before w h a b = matches a h ≡ true → matches b h ≡ true → stars w a < stars w b
 
-uncovered-before : (w h : ℕ) (rs : List Rule) → All (Valid w) rs → Pairs NoCross rs → Pairs (Before w h) (uncovered rs)
+pub uncovered-before : (w h : ℕ) (rs : List Rule) → All (Valid w) rs → Pairs NoCross rs → Pairs (Before w h) (uncovered rs)
 uncovered-before w h rs v p =
     pairs-map (Valid w) Free (Before w h) (λ a b u f m n. fewer-stars w a b h (u .fits) (f .0) (f .1) m n) (uncovered rs)
     (uncovered-all (Valid w) rs v) (uncovered-free rs p)
@@ -226,7 +226,7 @@ module _ (w : ℕ) where
       (λ e. ap (hits h) (chunk-no s r rs e) ∙ chunk-none s h rs (a .1))
 
   -- at most one rule of s stars matches
-  chunk-apart : (s h : ℕ) (rs : List Rule) → Pairs (Before w h) rs → hits h (chunk w s rs) ≤ 1
+  pub chunk-apart : (s h : ℕ) (rs : List Rule) → Pairs (Before w h) rs → hits h (chunk w s rs) ≤ 1
   unfolding chunk filter hits
   chunk-apart s h [] a = omega arith
   chunk-apart s h (r ∷ rs) a =
