@@ -1,0 +1,4 @@
+pub mod Runs
+pub mod Demand
+pub mod Calls
+pub mod Search
