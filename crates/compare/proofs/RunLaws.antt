@@ -2,7 +2,7 @@
 use Prim.Native.Nat.{ℕ, zero, suc, _+_, _-_, _*_, _^_, _≤_, _<_}
 use mathlib.Core.Path.{_≡_, refl, sym, ap, subst, _∙_}
 use mathlib.Core.Logic.{_≢_, _⊎_, inl, inr, _↔_}
-use mathlib.Core.List.{List, [], _∷_, _++_, append-nil, List·Memᴰ, List·Memᴰ·head, List·Memᴰ·tail, List·Memᴰ·cases-cons, List·Memᴰ·not-nil}
+use mathlib.Core.List.{List, [], _∷_, _++_, append-nil, List·Memᴰ, List·Memᴰ·head, List·Memᴰ·tail, List·Memᴰ·cases-cons, List·Memᴰ·not-nil, List·Memᴰ·append-cases}
 use mathlib.Core.Bool.{Bool, true, false, not, _&&_, _||_}
 use native.Mathlib.Nat.{sub-eq-zero-of-le}
 use native.Mathlib.Omega.{arith}
@@ -453,6 +453,44 @@ rising-one (x ∷ rs) R h r s m k a b c d =
     go (inr i) (inl t) ih = absurd (omega (arith, R .0 r i, ap (λ (y : Run). y .last) t))
     go (inr i) (inr j) ih = ih i j
 
+-- a run of the later ones is a run of the list
+pub mem-drop : (n : ℕ) (rs : List Run) (x : Run) → List·Memᴰ x (drop n rs) → List·Memᴰ x rs
+mem-drop zero rs x m = m
+mem-drop (suc n) [] x m = m
+mem-drop (suc n) (r ∷ rs) x m = List·Memᴰ·tail (mem-drop n rs x m)
+
+take-before-drop : (n : ℕ) (rs : List Run) → Rising rs → (x y : Run) → List·Memᴰ x (take n rs) → List·Memᴰ y (drop n rs)
+    → x .last < y .first
+take-before-drop zero rs R x y m k = absurd (List·Memᴰ·not-nil m)
+take-before-drop (suc n) [] R x y m k = absurd (List·Memᴰ·not-nil m)
+take-before-drop (suc n) (r ∷ rs) R x y m k = go (List·Memᴰ·cases-cons m) (λ i. take-before-drop n rs (R .1) x y i k)
+  where
+    go : (x ≡ r) ⊎ List·Memᴰ x (take n rs) → (List·Memᴰ x (take n rs) → x .last < y .first) → x .last < y .first
+    go (inl e) ih = omega (arith, R .0 y (mem-drop n rs y k), ap (λ (z : Run). z .last) e)
+    go (inr i) ih = ih i
+
+rising-drop : (n : ℕ) (rs : List Run) → Rising rs → Rising (drop n rs)
+rising-drop zero rs R = R
+rising-drop (suc n) [] R = R
+rising-drop (suc n) (r ∷ rs) R = rising-drop n rs (R .1)
+
+-- a header before the first of the later runs stands among the first n
+pub stands-apart : (n : ℕ) (rs : List Run) (r : Run) (ds : List Run) → drop n rs ≡ (r ∷ ds) → r .first ≤ r .last → (k : ℕ) → k < r .first
+    → Rising rs → Stands k rs → Stands k (take n rs)
+stands-apart n rs r ds e up k l R s =
+    go (List·Memᴰ·append-cases (take n rs) (subst (λ (xs : List Run). List·Memᴰ (s .0) xs) (sym (take-append-drop n rs)) (s .1)))
+  where
+    later : List·Memᴰ (s .0) (r ∷ ds) → Rising (r ∷ ds) → ⊥
+    later m Q = which (List·Memᴰ·cases-cons m)
+      where
+        which : (s .0 ≡ r) ⊎ List·Memᴰ (s .0) ds → ⊥
+        which (inl p) = omega (arith, s .2, ap (λ (z : Run). z .first) p)
+        which (inr i) = omega (arith, s .2, Q .0 (s .0) i)
+
+    go : List·Memᴰ (s .0) (take n rs) ⊎ List·Memᴰ (s .0) (drop n rs) → Stands k (take n rs)
+    go (inl m) = (s .0, m, s .2, s .3)
+    go (inr m) = absurd (later (rw e at m) (rw e at (rising-drop n rs R)))
+
 -- what the ending says
 module _ (f g : ℕ → ℕ) (top : ℕ) where
   front-first : (h a b : ℕ) (rs : List Run) → nextHeader (inFront h a b rs) ≡ (h ∷ [])
@@ -470,21 +508,6 @@ module _ (f g : ℕ → ℕ) (top : ℕ) where
   -- with none from h on there is no run
   pub ending-none : (h : ℕ) → ((k : ℕ) → h ≤ k → k < top → f k ≡ g k) → runsTo f g top h ≡ []
   ending-none h s = good-only f g top h [] s
-
-  mem-drop : (n : ℕ) (rs : List Run) (x : Run) → List·Memᴰ x (drop n rs) → List·Memᴰ x rs
-  mem-drop zero rs x m = m
-  mem-drop (suc n) [] x m = m
-  mem-drop (suc n) (r ∷ rs) x m = List·Memᴰ·tail (mem-drop n rs x m)
-
-  take-before-drop : (n : ℕ) (rs : List Run) → Rising rs → (x y : Run) → List·Memᴰ x (take n rs) → List·Memᴰ y (drop n rs)
-      → x .last < y .first
-  take-before-drop zero rs R x y m k = absurd (List·Memᴰ·not-nil m)
-  take-before-drop (suc n) [] R x y m k = absurd (List·Memᴰ·not-nil m)
-  take-before-drop (suc n) (r ∷ rs) R x y m k = go (List·Memᴰ·cases-cons m) (λ i. take-before-drop n rs (R .1) x y i k)
-    where
-      go : (x ≡ r) ⊎ List·Memᴰ x (take n rs) → (List·Memᴰ x (take n rs) → x .last < y .first) → x .last < y .first
-      go (inl e) ih = omega (arith, R .0 y (mem-drop n rs y k), ap (λ (z : Run). z .last) e)
-      go (inr i) ih = ih i
 
   -- finished exactly when no difference lies beyond those listed
   pub finished-exactly : (n start : ℕ) → (ending n (runsTo f g top start) ≡ [])
