@@ -7,10 +7,11 @@ use native.Mathlib.Omega.{arith}
 use native.Mathlib.Nat.{mod-lt, mod-eq-of-lt, mod-one, mul-le-mul-right, mul-assoc, pow-suc, div-div-eq-div-mul, mul-comm}
 use native.Mathlib.Numerals.{add-one}
 use native.Mathlib.Decide.{decLt}
-use lib.Bits.{bitAnd, and-high}
+use lib.Bits.{bitAnd, and-high, and-mask}
 use lib.Pow.{shr-lt, shr-mod, shr-shr, shl-shr, split, high, pow-pos, pow-add, mod-pow-add, mod-mod-pow}
 use lib.Count.{trailingZeros, under}
 use Rattle.rules.specs.Words.{bit}
+use Rattle.rules.proofs.BitLaws.{bit<2, zero-or-one}
 use Rattle.compare.specs.declared.engine.Found.{Found}
 use Rattle.compare.specs.declared.engine.Found.the-variants.{At, Nothing}
 use Rattle.compare.specs.Search.{LeastIn}
@@ -158,6 +159,13 @@ module _ (h j : ℕ) (low : h < 2 ^ 64) (few : j < 64) (o o′ : ℕ) (is : o + 
 
 -- ---- the way down
 
+-- a bit as the code tests it
+pub bit-one : (n k : ℕ) → bitAnd (n / 2 ^ k) 1 ≡ 1 → bit n k ≡ 1
+bit-one n k e = sym (and-mask (n / 2 ^ k) 1) ∙ e
+
+pub bit-zero : (n k : ℕ) → (bitAnd (n / 2 ^ k) 1 ≡ 1 → ⊥) → bit n k ≡ 0
+bit-zero n k ne = ⊎-elim (λ z. z) (λ o. absurd (ne (and-mask (n / 2 ^ k) 1 ∙ o))) (zero-or-one (bit n k) (bit<2 n k))
+
 module _ (oc ov od : List ℕ) (om : ℕ) (nc nv nd : List ℕ) (nm : ℕ) (f g : ℕ → ℕ) (h k : ℕ) where
   -- the difference `at` is reached with the sets ol and nl, and what is left are the places below j
   pub record Way (ol nl : List ℕ) (at j : ℕ) : Type 0 where
@@ -173,6 +181,9 @@ module _ (oc ov od : List ℕ) (om : ℕ) (nc nv nd : List ℕ) (nm : ℕ) (f g 
     old = λ x u e. F x;
     new = λ x u e. G x;
   }
+
+  pub way-step : (ol nl : List ℕ) (at j : ℕ) → zero < j → Way ol nl at j → Way ol nl at (j - 1 + 1)
+  way-step ol nl at j l W = subst (λ (x : ℕ). Way ol nl at x) (omega arith) W
 
   module _ (ol nl : List ℕ) (at j : ℕ) (W : Way ol nl at (j + 1)) where
     -- the sets answer otherwise at the difference
@@ -244,9 +255,12 @@ module _ (at k o : ℕ) (B : Block at k) (is : o + 1 ≡ 2 ^ k) where
         let rl : at ≤ r = omega (arith, base-le r k) in
         let ru : r < at + 2 ^ k = omega (arith, below-next r k) in
         let c = block-in r rl ru in
-        let whole : base r 0 ≡ r = omega (arith, split r 0) in
-        (rl, ru, (λ e. N .differ (F r c ∙ e ∙ sym (G r c))),
-        λ y a u. let d = block-in y a (omega arith) in sym (F y d) ∙ N .same y (omega arith) (omega arith) ∙ G y d)
+        let whole : base r 0 ≡ r = omega (arith, split r 0) in (
+          rl,
+          ru,
+          (λ e. N .differ (F r c ∙ e ∙ sym (G r c))),
+          λ y a u. let d = block-in y a (omega arith) in sym (F y d) ∙ N .same y (omega arith) (omega arith) ∙ G y d,
+        )
 
     none-in : Decided f′ g′ (18446744073709551615 - o) at Nothing → LeastIn f g at (at + 2 ^ k) Nothing
     unfolding LeastIn Decided Alike

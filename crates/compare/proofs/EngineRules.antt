@@ -227,4 +227,3 @@ kept-cut cs vs old new care value i K valid live m cov = record {
       ∙ sym (answer-rest cs vs ds old miss h);
   within = kept-within cs vs old care value (i + 1) new K;
 }
-

@@ -42,9 +42,10 @@ module _ (out : List ℕ) (w : ℕ) (sized : length out ≡ 16) (few : w < 16) w
   wide keep = length-set out w keep ∙ sized
 
   pub more-of : (keep t : ℕ) → t < 64 → (length (set out w (bitOr keep (one t))) ≡ 16) × ((k : ℕ) → member (set out w (bitOr keep (one t))) k ≡ (member (set out w keep) k || eqb k (w * 64 + t)))
-  more-of keep t l =
-      (wide (bitOr keep (one t)),
-      λ k. subst (λ (b : List ℕ). member b k ≡ (member (set out w keep) k || eqb k (w * 64 + t))) (wider keep t l) (more-member (set out w keep) (w * 64 + t) (wide keep) (omega arith) k))
+  more-of keep t l = (
+    wide (bitOr keep (one t)),
+    λ k. subst (λ (b : List ℕ). member b k ≡ (member (set out w keep) k || eqb k (w * 64 + t))) (wider keep t l) (more-member (set out w keep) (w * 64 + t) (wide keep) (omega arith) k),
+  )
 
 pub sift-start : (cs vs old out : List ℕ) (care value w : ℕ) → w < 16 → Kept cs vs old out care value (w * 64) → Kept cs vs old (set out w 0) care value (w * 64)
 sift-start cs vs old out care value w l K = record {

@@ -95,8 +95,8 @@ without x t z o =
     ∙ and-block t (x / 2 ^ suc t * 2 + 1) (x / 2 ^ suc t * 2) 0 (2 ^ t - 1) (omega arith) (omega arith)
     ∙ ap₂ (λ (a b : ℕ). a * 2 ^ t + b) (less-one (x / 2 ^ suc t)) (and-zero-l (2 ^ t - 1))
     ∙ (let r : x / 2 ^ suc t * 2 * 2 ^ t ≡ x / 2 ^ suc t * (2 * 2 ^ t) = mul-assoc (x / 2 ^ suc t) 2 (2 ^ t) in
-       let v : x / 2 ^ suc t * (2 * 2 ^ t) ≡ x / 2 ^ suc t * 2 ^ suc t = ap (λ (y : ℕ). x / 2 ^ suc t * y) (omega arith) in
-       omega arith)
+    let v : x / 2 ^ suc t * (2 * 2 ^ t) ≡ x / 2 ^ suc t * 2 ^ suc t = ap (λ (y : ℕ). x / 2 ^ suc t * y) (omega arith) in
+    omega arith)
 
 module _ (bits : List ℕ) where
   in-word : (w j : ℕ) → j < 64 → member bits (w * 64 + j) ≡ eqb (bit (getD bits w 0) j) 1

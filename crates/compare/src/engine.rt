@@ -51,11 +51,11 @@ fn lower(
     requires { ⌜ Ready (now oc) (now ov) (now od) × Ready (now nc) (now nv) (now nd) × (j < 64) × (bit h j ≡ 1)
         × (answerOf (now oc) (now ov) (now od) (now ol) om h ≡ answerOf (now nc) (now nv) (now nd) (now nl) nm h → ⊥) ⌝ }
     ensures { λ r. ⌜ Nearer (answerOf (now (oc .entry)) (now (ov .entry)) (now (od .entry)) (now (ol .entry)) om)
-            (answerOf (now (nc .entry)) (now (nv .entry)) (now (nd .entry)) (now (nl .entry)) nm) h (j + 1) r j
+        (answerOf (now (nc .entry)) (now (nv .entry)) (now (nd .entry)) (now (nl .entry)) nm) h (j + 1) r j
         × AnswersIn (now (oc .entry)) (now (ov .entry)) (now (od .entry)) (now (ol .exit)) om
-            (answerOf (now (oc .entry)) (now (ov .entry)) (now (od .entry)) (now (ol .entry)) om) h (j + 1)
+        (answerOf (now (oc .entry)) (now (ov .entry)) (now (od .entry)) (now (ol .entry)) om) h (j + 1)
         × AnswersIn (now (nc .entry)) (now (nv .entry)) (now (nd .entry)) (now (nl .exit)) nm
-            (answerOf (now (nc .entry)) (now (nv .entry)) (now (nd .entry)) (now (nl .entry)) nm) h (j + 1) ⌝ }
+        (answerOf (now (nc .entry)) (now (nv .entry)) (now (nd .entry)) (now (nl .entry)) nm) h (j + 1) ⌝ }
 {
     let care = 18446744073709551615 - ones(j + 1);
     let base = h & care;
@@ -135,7 +135,20 @@ fn least_in_block(
     narrow(nc, nv, &all, &mut n, cube);
     let found = differs(oc, ov, od, &o, om, nc, nv, nd, &n, nm, cube, false);
     match found {
-        Found::At(h) => Found::At(descend(oc, ov, od, &mut o, om, nc, nv, nd, &mut n, nm, known(h), k)),
+        Found::At(h) => Found::At(descend(
+            oc,
+            ov,
+            od,
+            &mut o,
+            om,
+            nc,
+            nv,
+            nd,
+            &mut n,
+            nm,
+            known(h),
+            k,
+        )),
         Found::Nothing => Found::Nothing,
     }
 }

@@ -126,9 +126,9 @@ fn unlike(
     requires { ⌜ Ready (now oc) (now ov) (now od) × Ready (now nc) (now nv) (now nd)
         × (seen ≡ true → answerOf (now oc) (now ov) (now od) (now ol) om h ≡ answerOf (now nc) (now nv) (now nd) (now nl) nm h) ⌝ }
     ensures { λ r. ⌜ (r ≡ false → answerOf (now (oc .entry)) (now (ov .entry)) (now (od .entry)) (now (ol .entry)) om h
-            ≡ answerOf (now (nc .entry)) (now (nv .entry)) (now (nd .entry)) (now (nl .entry)) nm h)
+        ≡ answerOf (now (nc .entry)) (now (nv .entry)) (now (nd .entry)) (now (nl .entry)) nm h)
         × (r ≡ true → answerOf (now (oc .entry)) (now (ov .entry)) (now (od .entry)) (now (ol .entry)) om h
-            ≡ answerOf (now (nc .entry)) (now (nv .entry)) (now (nd .entry)) (now (nl .entry)) nm h → ⊥) ⌝ }
+        ≡ answerOf (now (nc .entry)) (now (nv .entry)) (now (nd .entry)) (now (nl .entry)) nm h → ⊥) ⌝ }
 {
     if seen {
         return false;

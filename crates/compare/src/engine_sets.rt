@@ -80,7 +80,14 @@ pub(crate) fn next(live: &[u64; 16], s: Spot, from: usize, n: usize, words: usiz
 }
 
 // Of the word w those rules in play that meet the cube, up to the first that covers it; `out` has those of the words before.
-fn sift(care: &[u64], value: &[u64], live: &[u64; 16], out: &[u64; 16], w: usize, cube: Cube) -> Part
+fn sift(
+    care: &[u64],
+    value: &[u64],
+    live: &[u64; 16],
+    out: &[u64; 16],
+    w: usize,
+    cube: Cube,
+) -> Part
     requires { ⌜ (length (now care) ≤ 1024) × (length (now value) ≡ length (now care))
         × ((i : ℕ) → bitAnd (getD (now value) i 0) (getD (now care) i 0) ≡ getD (now value) i 0)
         × (w * 64 < length (now care)) × Kept (now care) (now value) (now live) (now out) (cube .care) (cube .value) (w * 64) ⌝ }

@@ -79,7 +79,7 @@ differs-shl-p : (t : ℕ) → differs-lts.Need-shl-p (narrow-reads.Asked, narrow
 differs-shl-p t c = c .pick .ensures .0
 
 differs-differs-requires : (t : ℕ) → differs-lts.Need-differs-requires (narrow-reads.Asked, narrow-reads.Learnt, agree-reads.Asked, agree-reads.Learnt, unlike-reads.Asked, unlike-reads.Learnt, wanted-reads.Asked, wanted-reads.Learnt, pick-reads.Asked, pick-reads.Learnt, differs-below t, differs.Post) (differs-at t) differs.Post
-differs-differs-requires t c κs = 
+differs-differs-requires t c κs =
     let a = c .before .before .before .before .before .before .before .before .before .before .before .before .before .before .before .before .before .before .before .before .before .before .before .before .before .before .before .args in
     let ok = c .before .before .before .before .before .before .before .before .before .before .before .before .before .before .before .before .before .before .before .before .before .before .before .before .before .before .before .pre .1 .2 in
     let k = c .before .before .pick .result in
@@ -97,7 +97,7 @@ differs-enum-told-2 : (t : ℕ) → differs-lts.Need-enum-told-2 (narrow-reads.A
 differs-enum-told-2 t c = search needs
 
 differs-differs-requires-2 : (t : ℕ) → differs-lts.Need-differs-requires-2 (narrow-reads.Asked, narrow-reads.Learnt, agree-reads.Asked, agree-reads.Learnt, unlike-reads.Asked, unlike-reads.Learnt, wanted-reads.Asked, wanted-reads.Learnt, pick-reads.Asked, pick-reads.Learnt, differs-below t, differs.Post) (differs-at t) differs.Post
-differs-differs-requires-2 t c κs = 
+differs-differs-requires-2 t c κs =
     let a = c .before .before .before .before .before .before .before .before .before .before .before .before .before .before .before .before .before .before .before .before .before .before .before .before .before .before .before .before .before .before .before .before .args in
     let ok = c .before .before .before .before .before .before .before .before .before .before .before .before .before .before .before .before .before .before .before .before .before .before .before .before .before .before .before .before .before .before .before .before .pre .1 .2 in
     let k = c .before .before .before .before .before .before .before .pick .result in
@@ -109,12 +109,12 @@ differs-differs-requires-2 t c κs =
     (less, (c .before .before .before .before .before .before .before .before .before .before .before .before .before .before .before .before .before .before .before .before .before .before .before .before .before .before .before .before .before .before .before .before .pre .1 .0, c .before .before .before .before .before .before .before .before .before .before .before .before .before .before .before .before .before .before .before .before .before .before .before .before .before .before .before .before .before .before .before .before .pre .1 .1, subst (λ (x : ℕ). bitAnd (bitOr value x) (bitOr care x) ≡ bitOr value x) (sym p) (high-valid care value k (E .1) ok), λ e. absurd (false≢true e)))
 
 differs-returns-4 : (t : ℕ) → differs-lts.Need-returns-4 (narrow-reads.Asked, narrow-reads.Learnt, agree-reads.Asked, agree-reads.Learnt, unlike-reads.Asked, unlike-reads.Learnt, wanted-reads.Asked, wanted-reads.Learnt, pick-reads.Asked, pick-reads.Learnt, differs-below t, differs.Post) (differs-at t) differs.Post
-differs-returns-4 t c = 
+differs-returns-4 t c =
     let E = c .before .before .before .before .before .before .pick .ensures in
     say-low _ _ _ _ _ _ (c .before .before .before .before .before .before .before .before .before .before .before .before .before .before .before .before .before .before .before .before .before .before .before .narrow .ensures .same (c .before .before .before .before .before .before .before .before .before .before .before .before .before .before .before .before .before .before .before .before .before .before .before .before .before .before .before .before .before .before .before .args .od .now) (c .before .before .before .before .before .before .before .before .before .before .before .before .before .before .before .before .before .before .before .before .before .before .before .before .before .before .before .before .before .before .before .args .om)) (c .before .before .before .before .before .before .before .before .before .before .before .before .before .before .before .before .before .before .before .before .before .narrow2 .ensures .same (c .before .before .before .before .before .before .before .before .before .before .before .before .before .before .before .before .before .before .before .before .before .before .before .before .before .before .before .before .before .before .before .args .nd .now) (c .before .before .before .before .before .before .before .before .before .before .before .before .before .before .before .before .before .before .before .before .before .before .before .before .before .before .before .before .before .before .before .args .nm)) _ (E .1) (c .before .before .before .before .before .before .before .before .before .before .before .before .before .before .before .before .before .before .before .before .before .before .before .before .before .before .before .before .before .before .before .pre .1 .2) _ (power _ (E .0)) _ (c .before .before .before .differs .ensures) _ (c .before .low .given .1)
 
 differs-returns-5 : (t : ℕ) → differs-lts.Need-returns-5 (narrow-reads.Asked, narrow-reads.Learnt, agree-reads.Asked, agree-reads.Learnt, unlike-reads.Asked, unlike-reads.Learnt, wanted-reads.Asked, wanted-reads.Learnt, pick-reads.Asked, pick-reads.Learnt, differs-below t, differs.Post) (differs-at t) differs.Post
-differs-returns-5 t c = 
+differs-returns-5 t c =
     let E = c .before .before .before .before .before .before .before .before .pick .ensures in
     say-both _ _ _ _ _ _ (c .before .before .before .before .before .before .before .before .before .before .before .before .before .before .before .before .before .before .before .before .before .before .before .before .before .narrow .ensures .same (c .before .before .before .before .before .before .before .before .before .before .before .before .before .before .before .before .before .before .before .before .before .before .before .before .before .before .before .before .before .before .before .before .before .args .od .now) (c .before .before .before .before .before .before .before .before .before .before .before .before .before .before .before .before .before .before .before .before .before .before .before .before .before .before .before .before .before .before .before .before .before .args .om)) (c .before .before .before .before .before .before .before .before .before .before .before .before .before .before .before .before .before .before .before .before .before .before .before .narrow2 .ensures .same (c .before .before .before .before .before .before .before .before .before .before .before .before .before .before .before .before .before .before .before .before .before .before .before .before .before .before .before .before .before .before .before .before .before .args .nd .now) (c .before .before .before .before .before .before .before .before .before .before .before .before .before .before .before .before .before .before .before .before .before .before .before .before .before .before .before .before .before .before .before .before .before .args .nm)) _ (E .1) (c .before .before .before .before .before .before .before .before .before .before .before .before .before .before .before .before .before .before .before .before .before .before .before .before .before .before .before .before .before .before .before .before .before .pre .1 .2) _ (power _ (E .0)) _ (c .before .before .before .before .before .differs .ensures) (c .before .before .before .enum-told2 .given .1) _ (c .differs2 .ensures)
 

@@ -90,12 +90,15 @@ loop-less : tie.Need-loop-less Inv-loop μ-loop
 loop-less c = omega (arith, c .before .before .before .before .before .before .before .before .before .next .ensures .0 .after, c .before .before .before .before .before .before .before .before .before .next .ensures .0 .few, c .before .before .before .before .before .before .before .if1 .left)
 
 loop-again : tie.Need-loop-again Inv-loop μ-loop
-loop-again c = 
+loop-again c =
     let l : c .before .before .before .before .before .before .before .before .before .next .result .at < length (c .before .before .before .before .before .before .before .before .before .before .before .before .before .before .before .before .before .before .before .args .oc .now) = omega (arith, c .before .before .before .before .before .before .before .before .before .next .ensures .0 .few, c .before .before .before .before .before .before .before .if1 .left) in
     let r : c .before .before .before .before .before .before .before .before .next2 .result .at < length (c .before .before .before .before .before .before .before .before .before .before .before .before .before .before .before .before .before .before .before .args .nc .now) = omega (arith, c .before .before .before .before .before .before .before .before .next2 .ensures .0 .few, c .before .before .before .before .before .before .if4 .left) in
-    let E = c .before .before .before .before .before .same-rest .ensures (c .before .before .before .before .if5 .taken) in
-    (step-more _ _ _ _ _ _ _ _ _ _ _ _ (c .before .before .before .before .before .before .before .before .before .next .result .at) (c .before .before .before .before .before .before .before .before .next2 .result .at) (c .before .before .before .before .before .before .before .before .before .before .before .before .before .before .before .before .before .before .before .pre .0) (c .before .before .before .before .before .before .before .before .before .before .before .before .before .before .before .before .before .before .before .pre .1) (c .before .before .before .before .before .before .before .before .before .before .before .before .before .before .before .before .before .before .before .pre .2) (c .before .before .before .before .before .before .before .before .before .before .before .before .before .before .before .before .before .before .before .pre .3) (c .before .before .before .before .before .before .before .before .before .next .ensures .0 .found l) (c .before .before .before .before .before .before .before .before .next2 .ensures .0 .found r) (E .1) (E .2)
-    (step-skip _ _ _ _ _ _ _ _ _ _ _ _ (c .before .before .before .before .before .before .before .before .before .before .loop .from) (c .before .before .before .before .before .before .before .before .before .before .loop .to) (c .before .before .before .before .before .before .before .before .before .next .result .at) (c .before .before .before .before .before .before .before .before .next2 .result .at) (c .before .before .before .before .before .before .before .before .before .before .loop .inv .0) (c .before .before .before .before .before .before .before .before .before .next .ensures .0 .after) (c .before .before .before .before .before .before .before .before .before .next .ensures .0 .few) (c .before .before .before .before .before .before .before .before .before .next .ensures .0 .none) (c .before .before .before .before .before .before .before .before .next2 .ensures .0 .after) (c .before .before .before .before .before .before .before .before .next2 .ensures .0 .few) (c .before .before .before .before .before .before .before .before .next2 .ensures .0 .none)) l r (E .0), c .before .before .before .before .before .before .before .before .before .next .ensures .1 l, c .before .before .before .before .before .before .before .before .next2 .ensures .1 r)
+    let E = c .before .before .before .before .before .same-rest .ensures (c .before .before .before .before .if5 .taken) in (
+      step-more _ _ _ _ _ _ _ _ _ _ _ _ (c .before .before .before .before .before .before .before .before .before .next .result .at) (c .before .before .before .before .before .before .before .before .next2 .result .at) (c .before .before .before .before .before .before .before .before .before .before .before .before .before .before .before .before .before .before .before .pre .0) (c .before .before .before .before .before .before .before .before .before .before .before .before .before .before .before .before .before .before .before .pre .1) (c .before .before .before .before .before .before .before .before .before .before .before .before .before .before .before .before .before .before .before .pre .2) (c .before .before .before .before .before .before .before .before .before .before .before .before .before .before .before .before .before .before .before .pre .3) (c .before .before .before .before .before .before .before .before .before .next .ensures .0 .found l) (c .before .before .before .before .before .before .before .before .next2 .ensures .0 .found r) (E .1) (E .2)
+          (step-skip _ _ _ _ _ _ _ _ _ _ _ _ (c .before .before .before .before .before .before .before .before .before .before .loop .from) (c .before .before .before .before .before .before .before .before .before .before .loop .to) (c .before .before .before .before .before .before .before .before .before .next .result .at) (c .before .before .before .before .before .before .before .before .next2 .result .at) (c .before .before .before .before .before .before .before .before .before .before .loop .inv .0) (c .before .before .before .before .before .before .before .before .before .next .ensures .0 .after) (c .before .before .before .before .before .before .before .before .before .next .ensures .0 .few) (c .before .before .before .before .before .before .before .before .before .next .ensures .0 .none) (c .before .before .before .before .before .before .before .before .next2 .ensures .0 .after) (c .before .before .before .before .before .before .before .before .next2 .ensures .0 .few) (c .before .before .before .before .before .before .before .before .next2 .ensures .0 .none)) l r (E .0),
+      c .before .before .before .before .before .before .before .before .before .next .ensures .1 l,
+      c .before .before .before .before .before .before .before .before .next2 .ensures .1 r,
+    )
 
 pub agree-spec : {M : Type 1} → statement M
 agree-spec =

@@ -134,11 +134,13 @@ loop-again c =
     let w : a .w < 16 = omega (arith, p .0, p .3) in
     let T = kept-skip _ _ _ _ _ (L .from) _ (a .w * 64 + trailingZeros 64 (L .x)) K (found-after _ _ _ _ S u) (omega arith) (found-none _ _ _ _ S u) in
     let m = found _ _ _ _ S u in
-    let more = more-of (a .out .now) (a .w) (p .4 .sized) w (L .keep) (trailingZeros 64 (L .x)) u in
-    (⊎-elim
-    (λ v. rw (v .5) (add-in _ _ _ _ _ (a .w * 64 + trailingZeros 64 (L .x)) (set (a .out .now) (a .w) (L .keep)) _ T l m (v .0 .taken) more))
-    (λ v. rw (v .1) (drop-apart _ _ _ _ _ (a .w * 64 + trailingZeros 64 (L .x)) (set (a .out .now) (a .w) (L .keep)) T l (v .0 .left)))
-    (c .if2 .came), found-rest _ _ _ _ S u)
+    let more = more-of (a .out .now) (a .w) (p .4 .sized) w (L .keep) (trailingZeros 64 (L .x)) u in (
+      ⊎-elim
+          (λ v. rw (v .5) (add-in _ _ _ _ _ (a .w * 64 + trailingZeros 64 (L .x)) (set (a .out .now) (a .w) (L .keep)) _ T l m (v .0 .taken) more))
+          (λ v. rw (v .1) (drop-apart _ _ _ _ _ (a .w * 64 + trailingZeros 64 (L .x)) (set (a .out .now) (a .w) (L .keep)) T l (v .0 .left)))
+          (c .if2 .came),
+      found-rest _ _ _ _ S u,
+    )
 
 returns-3 : tie.Need-returns-3 Inv-loop μ-loop
 returns-3 c =
