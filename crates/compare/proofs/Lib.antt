@@ -4,6 +4,15 @@ pub mod RunLaws
 pub mod SearchLaws
 pub mod VerdictLaws
 pub mod FillLaws
-pub mod EngineLaws
 pub mod Demands
 pub mod Unique
+mod EngineBits
+mod EngineFirst
+mod EngineWords
+mod EngineRules
+mod EngineSieve
+mod EngineFree
+mod EngineHalves
+mod EngineLockstep
+mod EngineWhole
+mod EngineBlocks

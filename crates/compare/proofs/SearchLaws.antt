@@ -1,10 +1,9 @@
 -- Laws of the search for the least difference, of the end of a run, and of the run at a difference.
-use Prim.Native.Nat.{ℕ, zero, suc, _+_, _-_, _*_, _%_, _^_, _≤_, _<_, min}
+use Prim.Native.Nat.{ℕ, zero, suc, _+_, _-_, _^_, _≤_, _<_, min}
 use mathlib.Core.Path.{_≡_, refl, sym, ap, _∙_, subst}
 use mathlib.Core.List.{List, [], _∷_}
 use native.Mathlib.Omega.{arith}
 use native.Mathlib.Decide.{decLt, decLe}
-use lib.Pow.{shl-exact}
 use Rattle.rules.specs.declared.Rule.{Rule}
 use Rattle.rules.specs.Rules.{first, answer, noMatch}
 use Rattle.rules.specs.Slices.{rulesOf}
@@ -12,10 +11,6 @@ use Rattle.compare.specs.declared.engine.Found.{Found}
 use Rattle.compare.specs.Search.{Listed, LeastIn, Lasts}
 use Rattle.compare.specs.Runs.{run, runsTo}
 use Rattle.compare.proofs.RunLaws.{step-last}
-
--- `1 << k`
-pub power : (k : ℕ) → k < 64 → 1 * 2 ^ k % 18446744073709551616 ≡ 2 ^ k
-power k l = shl-exact 1 k 64 (omega arith) (omega arith) ∙ omega arith
 
 -- ---- what the search says, by its answer
 

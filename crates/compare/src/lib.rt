@@ -1,6 +1,9 @@
 // The comparison of two lists of rules: every run of headers on which their answers differ, in portions.
 mod answers;
 mod engine;
+mod engine_choice;
+mod engine_cubes;
+mod engine_sets;
 mod portions;
 mod runs;
 

@@ -12,7 +12,7 @@ use crate::Compared;
 use crate::Ending;
 use crate::engine::Found;
 use crate::engine::least_from;
-use crate::runs::ones;
+use crate::engine::ones;
 use crate::runs::run_at;
 use rules::Refusal;
 use rules::Verdict;

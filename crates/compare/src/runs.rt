@@ -1,29 +1,19 @@
 // The run of differences that starts at a header: both answers there, and the last header to which both go on.
 ghost use mathlib.Core.Path.{_≡_};
-ghost use Prim.Native.Nat.{_+_, _^_, _≤_, _<_, min};
+ghost use Prim.Native.Nat.{_^_, _<_, min};
 ghost use Rattle.rules.specs.Rules.{answer};
 ghost use Rattle.rules.specs.Slices.{rulesOf};
 ghost use Rattle.compare.specs.Search.{Listed, Lasts, Stretched};
 use crate::answers::answer_at;
 use crate::engine::Found;
 use crate::engine::least_from;
+use crate::engine::ones;
 
 // A run of differences, of which the first header is known.
 pub(crate) struct Stretch {
     pub last: u64,
     pub old: u16,
     pub new: u16,
-}
-
-// The last header of a width: 2^width - 1. At width 64 the number of headers itself does not fit into a word.
-pub(crate) fn ones(width: u32) -> u64
-    requires { ⌜ width ≤ 64 ⌝ }
-    ensures { λ r. ⌜ r + 1 ≡ 2 ^ width ⌝ }
-{
-    if width == 64 {
-        return 18446744073709551615;
-    }
-    (1u64 << width) - 1
 }
 
 // The last header up to which, from `lo` on, the list goes on answering `a`, as it does at `lo`: the header before the

@@ -13,7 +13,7 @@ use Rattle.compare.proofs.portions.fill.Tie as tie
 use Rattle.compare.proofs.portions.fill.Reads as reads
 use Rattle.compare.proofs.portions.fill.Lts as lts
 use Rattle.compare.proofs.engine.least_from.Reads as least-from-reads
-use Rattle.compare.proofs.runs.ones.Reads as ones-reads
+use Rattle.compare.proofs.engine.ones.Reads as ones-reads
 use Rattle.compare.proofs.runs.run_at.Reads as run-at-reads
 
 abbrev Inv-loop : tie.InvT-loop

@@ -7,7 +7,7 @@ use Rattle.compare.proofs.portions.portion_verdict.Tie as tie
 use Rattle.compare.proofs.portions.portion_verdict.Reads as reads
 use Rattle.compare.proofs.portions.portion_verdict.Lts as lts
 use Rattle.compare.proofs.portions.refused.Reads as refused-reads
-use Rattle.compare.proofs.runs.ones.Reads as ones-reads
+use Rattle.compare.proofs.engine.ones.Reads as ones-reads
 
 -- src/portions.rt:145:8
 ones-requires : tie.Need-ones-requires

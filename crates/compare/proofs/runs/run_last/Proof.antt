@@ -8,7 +8,7 @@ use Rattle.compare.proofs.runs.run_last.Tie as tie
 use Rattle.compare.proofs.runs.run_last.Reads as reads
 use Rattle.compare.proofs.runs.run_last.Lts as lts
 use Rattle.compare.proofs.engine.least_from.Reads as least-from-reads
-use Rattle.compare.proofs.runs.ones.Reads as ones-reads
+use Rattle.compare.proofs.engine.ones.Reads as ones-reads
 
 -- src/runs.rt:52:9
 slice-aggregate-least-from : tie.Need-slice-aggregate-least-from
