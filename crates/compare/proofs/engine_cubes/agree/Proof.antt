@@ -1,0 +1,130 @@
+use Prim.Native.Nat.{ℕ, zero, suc, _+_, _-_, _*_, _/_, _%_, _^_, _≤_, _<_}
+use mathlib.Core.Path.{_≡_, refl, sym, ap, _∙_}
+use mathlib.Core.List.{List}
+use mathlib.Core.Bool.{Bool, true, false, false≢true}
+use native.Mathlib.Omega.{arith}
+use borrow.Author.Needs.{needs}
+use lib.ListN.{length, getD}
+use Rattle.compare.specs.EngineSets.{Pending}
+use Rattle.compare.proofs.EngineLockstep.{Step, step-start, step-skip, step-more, step-cover, step-end}
+use Rattle.compare.proofs.engine_cubes.agree.Statement.{statement}
+use Rattle.compare.proofs.engine_cubes.agree.Tie as tie
+use Rattle.compare.proofs.engine_cubes.agree.Reads as reads
+use Rattle.compare.proofs.engine_cubes.agree.Lts as lts
+use Rattle.compare.proofs.engine_cubes.same_rest.Reads as same-rest-reads
+use Rattle.compare.proofs.engine_sets.next.Reads as next-reads
+use Rattle.compare.proofs.engine_sets.start.Reads as start-reads
+
+abbrev Inv-loop : tie.InvT-loop
+Inv-loop oc ov od ol om nc nv nd nl nm cube n m old-words new-words from₀ to₀ s₀ t₀ from to s t = Step oc ov od ol om nc nv nd nl nm (cube .care) (cube .value) from to × Pending ol (s .word) (s .left) from × Pending nl (t .word) (t .left) to
+
+abbrev μ-loop : tie.MeasureT-loop
+μ-loop oc ov od ol om nc nv nd nl nm cube n m old-words new-words from₀ to₀ s₀ t₀ from to s t = length oc - from
+
+add-old-words : tie.Need-add-old-words Inv-loop μ-loop
+add-old-words c = search needs
+
+add-new-words : tie.Need-add-new-words Inv-loop μ-loop
+add-new-words c = search needs
+
+start-requires : tie.Need-start-requires Inv-loop μ-loop
+start-requires c κs = search needs
+
+start-requires-2 : tie.Need-start-requires-2 Inv-loop μ-loop
+start-requires-2 c κs = search needs
+
+loop-holds : tie.Need-loop-holds Inv-loop μ-loop
+loop-holds c = (step-start _ _ _ _ _ _ _ _ _ _ _ _, c .before .start .ensures, c .start2 .ensures)
+
+next-requires : tie.Need-next-requires Inv-loop μ-loop
+next-requires c κs = (c .loop .inv .1, c .loop .inv .0 .old-few, omega arith, omega (arith, c .before .before .before .before .before .before .before .before .before .pre .0 .few))
+
+next-requires-2 : tie.Need-next-requires-2 Inv-loop μ-loop
+next-requires-2 c κs = (c .before .loop .inv .2, c .before .loop .inv .0 .new-few, omega arith, omega (arith, c .before .before .before .before .before .before .before .before .before .before .pre .1 .few))
+
+returns : tie.Need-returns Inv-loop μ-loop
+returns c = λ e. step-end _ _ _ _ _ _ _ _ _ _ _ _ (c .before .before .before .before .next .result .at) (c .before .before .before .next2 .result .at) (step-skip _ _ _ _ _ _ _ _ _ _ _ _ (c .before .before .before .before .before .loop .from) (c .before .before .before .before .before .loop .to) (c .before .before .before .before .next .result .at) (c .before .before .before .next2 .result .at) (c .before .before .before .before .before .loop .inv .0) (c .before .before .before .before .next .ensures .0 .after) (c .before .before .before .before .next .ensures .0 .few) (c .before .before .before .before .next .ensures .0 .none) (c .before .before .before .next2 .ensures .0 .after) (c .before .before .before .next2 .ensures .0 .few) (c .before .before .before .next2 .ensures .0 .none)) (c .before .before .if1 .taken) (c .before .if2 .taken) (c .if3 .taken)
+
+returns-2 : tie.Need-returns-2 Inv-loop μ-loop
+returns-2 c = λ e. let z : _≡_ {A = ℕ} 0 1 = cc in absurd (let f : ⊥ = omega arith in f)
+
+returns-3 : tie.Need-returns-3 Inv-loop μ-loop
+returns-3 c = λ e. let z : _≡_ {A = ℕ} 0 1 = cc in absurd (let f : ⊥ = omega arith in f)
+
+returns-4 : tie.Need-returns-4 Inv-loop μ-loop
+returns-4 c = λ e. let z : _≡_ {A = ℕ} 0 1 = cc in absurd (let f : ⊥ = omega arith in f)
+
+same-rest-requires : tie.Need-same-rest-requires Inv-loop μ-loop
+same-rest-requires c κs = (c .before .before .before .before .before .before .before .before .before .before .before .before .before .pre .0, c .before .before .before .before .before .before .before .before .before .before .before .before .before .pre .1, omega (arith, c .before .before .before .next .ensures .0 .few, c .before .if1 .left), omega (arith, c .before .before .next2 .ensures .0 .few, c .if4 .left))
+
+mul-if6 : tie.Need-mul-if6 Inv-loop μ-loop
+mul-if6 c = omega (arith, c .before .before .before .before .before .next .ensures .0 .few, c .before .before .before .if1 .left, c .before .before .before .before .before .before .before .before .before .before .before .before .before .before .before .pre .0 .few, c .before .before .before .before .before .before .before .before .before .before .before .before .before .before .before .pre .0 .values, c .before .before .before .before .before .before .before .before .before .before .before .before .before .before .before .pre .0 .decisions)
+
+shared-slice-read-if6 : tie.Need-shared-slice-read-if6 Inv-loop μ-loop
+shared-slice-read-if6 c = omega (arith, c .before .before .before .before .before .before .next .ensures .0 .few, c .before .before .before .before .if1 .left, c .before .before .before .before .before .before .before .before .before .before .before .before .before .before .before .before .pre .0 .few, c .before .before .before .before .before .before .before .before .before .before .before .before .before .before .before .before .pre .0 .values, c .before .before .before .before .before .before .before .before .before .before .before .before .before .before .before .before .pre .0 .decisions)
+
+mul-if6-2 : tie.Need-mul-if6-2 Inv-loop μ-loop
+mul-if6-2 c = omega (arith, c .before .before .before .before .before .before .before .next .ensures .0 .few, c .before .before .before .before .before .if1 .left, c .before .before .before .before .before .before .before .before .before .before .before .before .before .before .before .before .before .pre .0 .few, c .before .before .before .before .before .before .before .before .before .before .before .before .before .before .before .before .before .pre .0 .values, c .before .before .before .before .before .before .before .before .before .before .before .before .before .before .before .before .before .pre .0 .decisions)
+
+shared-slice-read-if6-2 : tie.Need-shared-slice-read-if6-2 Inv-loop μ-loop
+shared-slice-read-if6-2 c = omega (arith, c .before .before .before .before .before .before .before .before .next .ensures .0 .few, c .before .before .before .before .before .before .if1 .left, c .before .before .before .before .before .before .before .before .before .before .before .before .before .before .before .before .before .before .pre .0 .few, c .before .before .before .before .before .before .before .before .before .before .before .before .before .before .before .before .before .before .pre .0 .values, c .before .before .before .before .before .before .before .before .before .before .before .before .before .before .before .before .before .before .pre .0 .decisions)
+
+returns-5 : tie.Need-returns-5 Inv-loop μ-loop
+returns-5 c = λ e.
+    let l : c .before .before .before .before .before .before .before .before .before .next .result .at < length (c .before .before .before .before .before .before .before .before .before .before .before .before .before .before .before .before .before .before .before .args .oc .now) = omega (arith, c .before .before .before .before .before .before .before .before .before .next .ensures .0 .few, c .before .before .before .before .before .before .before .if1 .left) in
+    let r : c .before .before .before .before .before .before .before .before .next2 .result .at < length (c .before .before .before .before .before .before .before .before .before .before .before .before .before .before .before .before .before .before .before .args .nc .now) = omega (arith, c .before .before .before .before .before .before .before .before .next2 .ensures .0 .few, c .before .before .before .before .before .before .if4 .left) in
+    let E = c .before .before .before .before .before .same-rest .ensures (c .before .before .before .before .if5 .taken) in
+    step-cover _ _ _ _ _ _ _ _ _ _ _ _ (c .before .before .before .before .before .before .before .before .before .next .result .at) (c .before .before .before .before .before .before .before .before .next2 .result .at) (c .before .before .before .before .before .before .before .before .before .before .before .before .before .before .before .before .before .before .before .pre .0) (c .before .before .before .before .before .before .before .before .before .before .before .before .before .before .before .before .before .before .before .pre .1) (c .before .before .before .before .before .before .before .before .before .before .before .before .before .before .before .before .before .before .before .pre .2) (c .before .before .before .before .before .before .before .before .before .before .before .before .before .before .before .before .before .before .before .pre .3) (c .before .before .before .before .before .before .before .before .before .next .ensures .0 .found l) (c .before .before .before .before .before .before .before .before .next2 .ensures .0 .found r) (E .1) (E .2)
+    (step-skip _ _ _ _ _ _ _ _ _ _ _ _ (c .before .before .before .before .before .before .before .before .before .before .loop .from) (c .before .before .before .before .before .before .before .before .before .before .loop .to) (c .before .before .before .before .before .before .before .before .before .next .result .at) (c .before .before .before .before .before .before .before .before .next2 .result .at) (c .before .before .before .before .before .before .before .before .before .before .loop .inv .0) (c .before .before .before .before .before .before .before .before .before .next .ensures .0 .after) (c .before .before .before .before .before .before .before .before .before .next .ensures .0 .few) (c .before .before .before .before .before .before .before .before .before .next .ensures .0 .none) (c .before .before .before .before .before .before .before .before .next2 .ensures .0 .after) (c .before .before .before .before .before .before .before .before .next2 .ensures .0 .few) (c .before .before .before .before .before .before .before .before .next2 .ensures .0 .none)) l r (E .0) (c .if6 .taken)
+
+returns-6 : tie.Need-returns-6 Inv-loop μ-loop
+returns-6 c = λ e. let z : _≡_ {A = ℕ} 0 1 = cc in absurd (let f : ⊥ = omega arith in f)
+
+add-from : tie.Need-add-from Inv-loop μ-loop
+add-from c = omega (arith, c .before .before .before .before .before .before .before .before .before .next .ensures .0 .few, c .before .before .before .before .before .before .before .if1 .left, c .before .before .before .before .before .before .before .before .before .before .before .before .before .before .before .before .before .before .before .pre .0 .few, c .before .before .before .before .before .before .before .before .before .before .before .before .before .before .before .before .before .before .before .pre .0 .values, c .before .before .before .before .before .before .before .before .before .before .before .before .before .before .before .before .before .before .before .pre .0 .decisions)
+
+add-to : tie.Need-add-to Inv-loop μ-loop
+add-to c = omega (arith, c .before .before .before .before .before .before .before .before .next2 .ensures .0 .few, c .before .before .before .before .before .before .if4 .left, c .before .before .before .before .before .before .before .before .before .before .before .before .before .before .before .before .before .before .before .pre .1 .few)
+
+loop-less : tie.Need-loop-less Inv-loop μ-loop
+loop-less c = omega (arith, c .before .before .before .before .before .before .before .before .before .next .ensures .0 .after, c .before .before .before .before .before .before .before .before .before .next .ensures .0 .few, c .before .before .before .before .before .before .before .if1 .left)
+
+loop-again : tie.Need-loop-again Inv-loop μ-loop
+loop-again c =
+    let l : c .before .before .before .before .before .before .before .before .before .next .result .at < length (c .before .before .before .before .before .before .before .before .before .before .before .before .before .before .before .before .before .before .before .args .oc .now) = omega (arith, c .before .before .before .before .before .before .before .before .before .next .ensures .0 .few, c .before .before .before .before .before .before .before .if1 .left) in
+    let r : c .before .before .before .before .before .before .before .before .next2 .result .at < length (c .before .before .before .before .before .before .before .before .before .before .before .before .before .before .before .before .before .before .before .args .nc .now) = omega (arith, c .before .before .before .before .before .before .before .before .next2 .ensures .0 .few, c .before .before .before .before .before .before .if4 .left) in
+    let E = c .before .before .before .before .before .same-rest .ensures (c .before .before .before .before .if5 .taken) in (
+      step-more _ _ _ _ _ _ _ _ _ _ _ _ (c .before .before .before .before .before .before .before .before .before .next .result .at) (c .before .before .before .before .before .before .before .before .next2 .result .at) (c .before .before .before .before .before .before .before .before .before .before .before .before .before .before .before .before .before .before .before .pre .0) (c .before .before .before .before .before .before .before .before .before .before .before .before .before .before .before .before .before .before .before .pre .1) (c .before .before .before .before .before .before .before .before .before .before .before .before .before .before .before .before .before .before .before .pre .2) (c .before .before .before .before .before .before .before .before .before .before .before .before .before .before .before .before .before .before .before .pre .3) (c .before .before .before .before .before .before .before .before .before .next .ensures .0 .found l) (c .before .before .before .before .before .before .before .before .next2 .ensures .0 .found r) (E .1) (E .2)
+          (step-skip _ _ _ _ _ _ _ _ _ _ _ _ (c .before .before .before .before .before .before .before .before .before .before .loop .from) (c .before .before .before .before .before .before .before .before .before .before .loop .to) (c .before .before .before .before .before .before .before .before .before .next .result .at) (c .before .before .before .before .before .before .before .before .next2 .result .at) (c .before .before .before .before .before .before .before .before .before .before .loop .inv .0) (c .before .before .before .before .before .before .before .before .before .next .ensures .0 .after) (c .before .before .before .before .before .before .before .before .before .next .ensures .0 .few) (c .before .before .before .before .before .before .before .before .before .next .ensures .0 .none) (c .before .before .before .before .before .before .before .before .next2 .ensures .0 .after) (c .before .before .before .before .before .before .before .before .next2 .ensures .0 .few) (c .before .before .before .before .before .before .before .before .next2 .ensures .0 .none)) l r (E .0),
+      c .before .before .before .before .before .before .before .before .before .next .ensures .1 l,
+      c .before .before .before .before .before .before .before .before .next2 .ensures .1 r,
+    )
+
+pub agree-spec : {M : Type 1} → statement M
+agree-spec =
+    tie.close
+    (tie.spec
+    Inv-loop
+    μ-loop
+    add-old-words
+    add-new-words
+    start-requires
+    start-requires-2
+    loop-holds
+    next-requires
+    next-requires-2
+    returns
+    returns-2
+    returns-3
+    returns-4
+    same-rest-requires
+    mul-if6
+    shared-slice-read-if6
+    mul-if6-2
+    shared-slice-read-if6-2
+    returns-5
+    returns-6
+    add-from
+    add-to
+    loop-less
+    loop-again)
