@@ -5,3 +5,6 @@ pub mod HeadLaws
 pub mod StepLaws
 pub mod SeekLaws
 pub mod AskLaws
+pub mod PutLaws
+pub mod GivenLaws
+pub mod WriteLaws

@@ -6,3 +6,4 @@ pub mod Replies
 pub mod Calls
 pub mod Writing
 pub mod Filled
+pub mod Putting

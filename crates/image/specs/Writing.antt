@@ -47,13 +47,18 @@ givenCheck ids ns cs vs ds =
     then lengthsCheck cs vs ds
     then need (eqb (sumOf ns) (length cs)) 2 0 0
 
--- The writer's checks: 1, 2, 12, per list 13 and 3, the rules, 10, 7.
-unfoldable pub writeCheck : (w : ℕ) → (ids counts cares values decisions : List ℕ) → (room : ℕ) → Reply
-writeCheck w ids ns cs vs ds room =
+-- 1, 2 and 12 (the number of lists).
+unfoldable pub shapeCheck : (w : ℕ) → (ids counts cares values decisions : List ℕ) → Reply
+shapeCheck w ids ns cs vs ds =
     widthCheck w
     then givenCheck ids ns cs vs ds
     then need (leb 1 (length ids)) 12 0 0
     then need (leb (length ids) 16) 12 0 0
+
+-- The writer's checks: 1, 2, 12, per list 13 and 3, the rules, 10, 7.
+unfoldable pub writeCheck : (w : ℕ) → (ids counts cares values decisions : List ℕ) → (room : ℕ) → Reply
+writeCheck w ids ns cs vs ds room =
+    shapeCheck w ids ns cs vs ds
     then namesCheck 1 0 ids ns
     then listsCheck w 1 (given ids ns cs vs ds)
     then need (leb (imageLength (length ids) (length cs)) 65536) 10 0 0

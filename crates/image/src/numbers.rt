@@ -12,6 +12,12 @@ pub(crate) fn wide(x: u8) -> usize
     x as usize
 }
 
+pub(crate) fn wide16(x: u16) -> usize
+    ensures { λ r. ⌜ (r ≡ x) × (r < 65536) ⌝ }
+{
+    x as usize
+}
+
 // The 2 bytes from byte `at` on, as a number; below, 4 and 8.
 pub(crate) fn u16_at(b: &[u8], at: usize) -> usize
     requires { ⌜ at + 2 ≤ length (now b) ⌝ }
