@@ -1,4 +1,5 @@
 // Printing of answers.
+ghost use Prim.Native.Nat.{_≤_};
 use rules::Looked;
 use rules::MovedRule;
 use rules::Refusal;
@@ -16,6 +17,10 @@ pub fn text(s: &[u8]) {
 
 pub fn number(n: u64) {
     io::print_decimal(1, n);
+}
+
+fn small(n: u8) {
+    number(n as u64);
 }
 
 pub fn refusal(x: Refusal) {
@@ -80,32 +85,53 @@ pub fn round_trip(label: &[u8], s: Swap, h: u64) {
     }
 }
 
-// The width, the entries that count, and how many of the others are 0.
-fn places(s: Swap) {
-    text(b"width ");
-    number(s.width as u64);
-    text(b":");
-    let width = s.width as usize;
-    let entries = s.places;
-    let mut zeros: usize = 0;
+// The entries that count.
+fn entries(places: &[u8; 64], width: usize)
+    requires { ⌜ width ≤ 64 ⌝ }
+{
     let mut i: usize = 0;
+    while i < width {
+        text(b" ");
+        small(places[i]);
+        i += 1;
+    }
+}
+
+// How many of the entries from `from` on are 0.
+fn zeros(places: &[u8; 64], from: usize) -> usize
+    requires { ⌜ from ≤ 64 ⌝ }
+{
+    let mut n: usize = 0;
+    let mut i = from;
     while i < 64 {
-        if i < width {
-            text(b" ");
-            number(entries[i] as u64);
-        } else if entries[i] == 0 {
-            zeros += 1;
+        if places[i] == 0 {
+            n += 1;
         }
         i += 1;
     }
-    text(b" and ");
-    number(zeros as u64);
-    text(b" zeros");
+    n
+}
+
+// The width, the entries that count, and how many of the others are 0.
+fn places(s: Swap) {
+    let all = s.places;
+    let width = s.width;
+    text(b"width ");
+    number(width as u64);
+    text(b":");
+    if width <= 64 {
+        let n = width as usize;
+        entries(&all, n);
+        text(b" and ");
+        number(zeros(&all, n) as u64);
+        text(b" zeros");
+    }
 }
 
 pub fn swap(label: &[u8], a: SwapAnswer) {
     text(label);
-    if let Verdict::Refused(x) = a.verdict {
+    let v = a.verdict;
+    if let Verdict::Refused(x) = v {
         refusal(x);
         text(b", ");
     }
