@@ -81,3 +81,31 @@ one-verdict Verdict.Fine Verdict.Fine e = refl
 one-verdict Verdict.Fine (Verdict.Refused y) e = absurd (gives-refuses e)
 one-verdict (Verdict.Refused x) Verdict.Fine e = absurd (gives-refuses (sym e))
 one-verdict (Verdict.Refused x) (Verdict.Refused y) e = ap Verdict.Refused (one-refusal x y e)
+
+pub one-looked : (a b : Looked) → lookedReply a ≡ lookedReply b → a ≡ b
+one-looked (Looked.Decision d) (Looked.Decision e) p = let q : d ≡ e = cc in ap Looked.Decision q
+one-looked (Looked.Decision d) Looked.Miss p = let z : _≡_ {A = ℕ} 0 1 = cc in absurd (omega arith)
+one-looked (Looked.Decision d) (Looked.Refused y) p = absurd (gives-refuses p)
+one-looked Looked.Miss (Looked.Decision e) p = let z : _≡_ {A = ℕ} 0 1 = cc in absurd (omega arith)
+one-looked Looked.Miss Looked.Miss p = refl
+one-looked Looked.Miss (Looked.Refused y) p = absurd (gives-refuses p)
+one-looked (Looked.Refused x) (Looked.Decision e) p = absurd (gives-refuses (sym p))
+one-looked (Looked.Refused x) Looked.Miss p = absurd (gives-refuses (sym p))
+one-looked (Looked.Refused x) (Looked.Refused y) p = ap Looked.Refused (one-refusal x y p)
+
+pub one-holds : (a b : Holds) → holdsReply a ≡ holdsReply b → a ≡ b
+one-holds Holds.Yes Holds.Yes p = refl
+one-holds Holds.Yes Holds.No p = let z : _≡_ {A = ℕ} 1 0 = cc in absurd (omega arith)
+one-holds Holds.Yes (Holds.Refused y) p = absurd (gives-refuses p)
+one-holds Holds.No Holds.Yes p = let z : _≡_ {A = ℕ} 0 1 = cc in absurd (omega arith)
+one-holds Holds.No Holds.No p = refl
+one-holds Holds.No (Holds.Refused y) p = absurd (gives-refuses p)
+one-holds (Holds.Refused x) Holds.Yes p = absurd (gives-refuses (sym p))
+one-holds (Holds.Refused x) Holds.No p = absurd (gives-refuses (sym p))
+one-holds (Holds.Refused x) (Holds.Refused y) p = ap Holds.Refused (one-refusal x y p)
+
+pub one-measured : (a b : Measured) → measuredReply a ≡ measuredReply b → a ≡ b
+one-measured (Measured.Places m) (Measured.Places n) p = let q : m ≡ n = cc in ap Measured.Places q
+one-measured (Measured.Places m) (Measured.Refused y) p = absurd (gives-refuses p)
+one-measured (Measured.Refused x) (Measured.Places n) p = absurd (gives-refuses (sym p))
+one-measured (Measured.Refused x) (Measured.Refused y) p = ap Measured.Refused (one-refusal x y p)

@@ -1,0 +1,10 @@
+-- The laws of images, for this crate's proofs and for the crates above it.
+pub mod NumberLaws
+pub mod BareLaws
+pub mod HeadLaws
+pub mod StepLaws
+pub mod SeekLaws
+pub mod AskLaws
+pub mod PutLaws
+pub mod GivenLaws
+pub mod WriteLaws

@@ -1,0 +1,35 @@
+use mathlib.Core.Path.{_≡_, refl, ap, ap₂, sym, _∙_}
+use Prim.Native.Nat.{ℕ, _+_, _-_, _*_, _≤_, _<_}
+use native.Mathlib.Omega.{arith}
+use lib.ListN.{length, drop}
+use denote.Ref.{now}
+use Rattle.image.proofs.PutLaws.{put-both}
+use borrow.Author.Needs.{needs}
+use Rattle.image.proofs.puts.put64.Statement.{statement}
+use Rattle.image.proofs.puts.put64.Tie as tie
+use Rattle.image.proofs.puts.put64.Reads as reads
+use Rattle.image.proofs.puts.put64.Lts as lts
+use Rattle.image.proofs.puts.put32.Reads as put32-reads
+
+-- src/puts.rt:36:5
+put32-requires : tie.Need-put32-requires
+put32-requires c κs = search needs
+
+-- src/puts.rt:37:16
+add-put32 : tie.Need-add-put32
+add-put32 c = search needs
+
+-- src/puts.rt:37:5
+put32-requires-2 : tie.Need-put32-requires-2
+put32-requires-2 c κs = search needs
+
+-- src/puts.rt:32:1
+same-length : tie.Need-same-length
+same-length c = search needs
+
+-- src/puts.rt:32:1
+returns : tie.Need-returns
+returns c = put-both 4 4 (now (c .before .before .before .before .before .before .before .before .before .args .out)) _ _ (c .before .before .before .before .before .before .before .before .before .args .at) (c .before .before .before .before .before .before .before .before .before .args .x) (c .before .before .before .before .before .before .before .before .before .pre) (c .before .before .before .before .before .before .put32 .ensures) (c .before .before .put322 .ensures)
+
+pub put64-spec : {M : Type 1} → statement M
+put64-spec = tie.close (tie.spec put32-requires add-put32 put32-requires-2 same-length returns)

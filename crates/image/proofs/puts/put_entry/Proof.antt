@@ -1,0 +1,53 @@
+use mathlib.Core.Path.{_≡_, refl, ap, ap₂, sym, _∙_}
+use Prim.Native.Nat.{ℕ, _+_, _-_, _*_, _≤_, _<_}
+use native.Mathlib.Omega.{arith}
+use lib.ListN.{length, drop}
+use denote.Ref.{now}
+use Rattle.image.proofs.PutLaws.{put-three}
+use borrow.Author.Needs.{needs}
+use Rattle.image.proofs.puts.put_entry.Statement.{statement}
+use Rattle.image.proofs.puts.put_entry.Tie as tie
+use Rattle.image.proofs.puts.put_entry.Reads as reads
+use Rattle.image.proofs.puts.put_entry.Lts as lts
+use Rattle.image.proofs.puts.put16.Reads as put16-reads
+use Rattle.image.proofs.puts.put32.Reads as put32-reads
+
+-- src/puts.rt:53:5
+put32-requires : tie.Need-put32-requires
+put32-requires c κs = search needs
+
+-- src/puts.rt:54:16
+add-put16 : tie.Need-add-put16
+add-put16 c = search needs
+
+-- src/puts.rt:54:5
+put16-requires : tie.Need-put16-requires
+put16-requires c κs = search needs
+
+-- src/puts.rt:55:16
+add-put16-2 : tie.Need-add-put16-2
+add-put16-2 c = search needs
+
+-- src/puts.rt:55:5
+put16-requires-2 : tie.Need-put16-requires-2
+put16-requires-2 c κs = search needs
+
+-- src/puts.rt:49:1
+same-length : tie.Need-same-length
+same-length c = search needs
+
+-- src/puts.rt:49:1
+returns : tie.Need-returns
+returns c = put-three 4 2 2 (now (c .before .before .before .before .before .before .before .before .before .before .before .before .before .args .out)) _ _ _ (c .before .before .before .before .before .before .before .before .before .before .before .before .before .args .at) _ _ _ (c .before .before .before .before .before .before .before .before .before .before .before .before .before .pre) (c .before .before .before .before .before .before .before .before .before .before .put32 .ensures) (c .before .before .before .before .before .before .put16 .ensures) (c .before .before .put162 .ensures)
+
+pub put-entry-spec : {M : Type 1} → statement M
+put-entry-spec =
+    tie.close
+    (tie.spec
+    put32-requires
+    add-put16
+    put16-requires
+    add-put16-2
+    put16-requires-2
+    same-length
+    returns)

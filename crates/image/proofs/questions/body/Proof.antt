@@ -1,0 +1,85 @@
+use mathlib.Core.Path.{_≡_, refl, ap, ap₂, sym, _∙_}
+use Prim.Native.Nat.{ℕ, _+_, _-_, _*_, _≤_, _<_}
+use native.Mathlib.Omega.{arith}
+use lib.ListN.{length, drop}
+use denote.Ref.{now}
+use native.Mathlib.Nat.{add-sub-cancel-left}
+use Rattle.image.specs.Bytes.{part}
+use Rattle.image.proofs.SeekLaws.{body-none, body-found, id-facts}
+use borrow.Author.Needs.{needs}
+use Rattle.image.proofs.questions.body.Statement.{statement}
+use Rattle.image.proofs.questions.body.Tie as tie
+use Rattle.image.proofs.questions.body.Reads as reads
+use Rattle.image.proofs.questions.body.Lts as lts
+use Rattle.image.proofs.places.find.Reads as find-reads
+use Rattle.image.proofs.questions.body_refusal.Reads as body-refusal-reads
+
+-- src/questions.rt:88:9
+body-refusal-requires : tie.Need-body-refusal-requires
+body-refusal-requires c κs = search needs
+
+enum-told : tie.Need-enum-told
+enum-told c = search needs
+
+-- src/questions.rt:90:16
+enum-told-2 : tie.Need-enum-told-2
+enum-told-2 c = search needs
+
+-- src/questions.rt:90:9
+slice-aggregate-result : tie.Need-slice-aggregate-result
+slice-aggregate-result c = search needs
+
+-- src/questions.rt:90:9
+returns : tie.Need-returns
+returns c = body-none _ _ _ (c .before .before .before .body-refusal .ensures) (c .before .enum-told2 .given .1)
+
+-- src/questions.rt:92:9
+find-requires : tie.Need-find-requires
+find-requires c κs =
+    let f = id-facts _ _ _ (c .before .before .body-refusal .ensures) (c .enum-told .given .1) in
+    (f .head .least, f .head .most, f .sums)
+
+-- src/questions.rt:94:22
+mul-end : tie.Need-mul-end
+mul-end c = search needs
+
+-- src/questions.rt:94:15
+add-end : tie.Need-add-end
+add-end c = search needs
+
+-- src/questions.rt:95:5
+sub-result : tie.Need-sub-result
+sub-result c = search needs
+
+-- src/questions.rt:95:5
+part-result-start : tie.Need-part-result-start
+part-result-start c = search needs
+
+-- src/questions.rt:95:5
+part-result-end : tie.Need-part-result-end
+part-result-end c = search needs
+
+-- src/questions.rt:85:1
+returns-2 : tie.Need-returns-2
+returns-2 c =
+    let t = c .before .before in
+    let b = now (t .before .before .before .before .before .args .image) in
+    ap (λ (k : ℕ). part k (t .find .result .from) b) (add-sub-cancel-left (t .find .result .from) (18 * t .find .result .count))
+    ∙ body-found b _ _ (t .find .result) (t .before .before .before .body-refusal .ensures) (t .before .enum-told .given .1) (t .find .ensures .0)
+
+pub body-spec : {M : Type 1} → statement M
+body-spec =
+    tie.close
+    (tie.spec
+    body-refusal-requires
+    enum-told
+    enum-told-2
+    slice-aggregate-result
+    returns
+    find-requires
+    mul-end
+    add-end
+    sub-result
+    part-result-start
+    part-result-end
+    returns-2)

@@ -1,0 +1,9 @@
+pub mod Bytes
+pub mod Images
+pub mod Checks
+pub mod Places
+pub mod Replies
+pub mod Calls
+pub mod Writing
+pub mod Filled
+pub mod Putting

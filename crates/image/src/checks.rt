@@ -1,0 +1,185 @@
+// The checks of an image: nothing is believed before it is checked.
+ghost use mathlib.Core.Path.{_≡_};
+ghost use Prim.Native.Nat.{_+_, _*_, _≤_, _<_};
+ghost use lib.ListN.{length, drop};
+ghost use Rattle.rules.specs.Replies.{verdictReply, Refuses};
+ghost use Rattle.rules.specs.Checks.{rulesCheck};
+ghost use Rattle.image.specs.Images.{entryIn, entryWith, rulesIn, countIn, widthIn, entriesOf, total};
+ghost use Rattle.image.specs.Checks.{headCheck, entryCheck, contentsCheck, bodiesCheck, imageCheck};
+use crate::numbers::rule_in;
+use crate::numbers::u16_at;
+use crate::numbers::u32_at;
+use crate::numbers::wide;
+use rules::Refusal;
+use rules::Verdict;
+use rules::check_rule;
+
+// A refusal as a verdict.
+pub(crate) fn refused(number: usize, list: usize, rule: usize) -> Verdict
+    ensures { λ r. ⌜ verdictReply r ≡ Refuses number list rule ⌝ }
+{
+    Verdict::Refused(Refusal { number, list, rule })
+}
+
+// The size, the first four bytes, and room for the contents.
+fn head(b: &[u8]) -> Verdict
+    ensures { λ r. ⌜ verdictReply r ≡ headCheck (now (b .entry)) ⌝ }
+{
+    if b.len() < 4 {
+        return refused(10, 0, 0);
+    }
+    if b.len() > 65536 {
+        return refused(10, 0, 0);
+    }
+    if b[0] != 1 {
+        return refused(11, 0, 0);
+    }
+    if b[3] != 0 {
+        return refused(11, 0, 0);
+    }
+    if b[1] < 1 {
+        return refused(1, 0, 0);
+    }
+    if b[1] > 64 {
+        return refused(1, 0, 0);
+    }
+    let lists = wide(b[2]);
+    if lists < 1 {
+        return refused(12, 0, 0);
+    }
+    if lists > 16 {
+        return refused(12, 0, 0);
+    }
+    if 4 + 8 * lists > b.len() {
+        return refused(12, 0, 0);
+    }
+    Verdict::Fine
+}
+
+// Contents entry number `list` of an image of `size` bytes: its id is `least` or more, its body starts at byte `next`.
+fn entry_verdict(
+    size: usize,
+    next: usize,
+    least: usize,
+    list: usize,
+    offset: usize,
+    count: usize,
+    id: usize,
+) -> Verdict
+    requires { ⌜ next ≤ 65536 ⌝ }
+    ensures { λ r. ⌜ verdictReply r ≡ entryCheck size next least list (entryWith offset count id) ⌝ }
+{
+    if id < least {
+        return refused(13, list, 0);
+    }
+    if offset != next {
+        return refused(14, list, 0);
+    }
+    if count > 1024 {
+        return refused(3, list, 0);
+    }
+    if next + 18 * count > size {
+        return refused(10, list, 0);
+    }
+    Verdict::Fine
+}
+
+// The contents entry at byte `at`.
+fn entry_at(b: &[u8], at: usize, next: usize, least: usize, list: usize) -> Verdict
+    requires { ⌜ (at + 8 ≤ length (now b)) × (next ≤ 65536) ⌝ }
+    ensures { λ r. ⌜ verdictReply r
+        ≡ entryCheck (length (now (b .entry))) next least list (entryIn (drop at (now (b .entry)))) ⌝ }
+{
+    let offset = u32_at(b, at);
+    let count = u16_at(b, at + 4);
+    let id = u16_at(b, at + 6);
+    entry_verdict(b.len(), next, least, list, offset, count, id)
+}
+
+// The contents of an image whose head is right. Bodies are counted from the end of the one before and not from the
+// offsets, so that no offset is used before it is known to be right.
+fn contents(b: &[u8]) -> Verdict
+    requires { ⌜ (4 ≤ length (now b)) × (length (now b) ≤ 65536) × (4 + 8 * countIn (now b) ≤ length (now b)) ⌝ }
+    ensures { λ r. ⌜ verdictReply r ≡ contentsCheck (now (b .entry)) ⌝ }
+{
+    let mut left = wide(b[2]);
+    let mut next = 4 + 8 * left;
+    let mut at: usize = 4;
+    let mut least: usize = 0;
+    let mut list: usize = 1;
+    while 0 < left {
+        let v = entry_at(b, at, next, least, list);
+        let Verdict::Fine = v else {
+            return v;
+        };
+        next += 18 * u16_at(b, at + 4);
+        least = u16_at(b, at + 6) + 1;
+        at += 8;
+        list += 1;
+        left -= 1;
+    }
+    if next != b.len() {
+        return refused(10, 0, 0);
+    }
+    Verdict::Fine
+}
+
+// The `count` rules from byte `from` on, the lower rule first.
+fn rules_at(b: &[u8], from: usize, count: usize, width: u32, list: usize) -> Verdict
+    requires { ⌜ (from + 18 * count ≤ length (now b)) × (1 ≤ width) × (width ≤ 64) ⌝ }
+    ensures { λ r. ⌜ verdictReply r ≡ rulesCheck width list 1 (rulesIn count (drop from (now (b .entry)))) ⌝ }
+{
+    let mut left = count;
+    let mut at = from;
+    let mut number: usize = 1;
+    while 0 < left {
+        let v = check_rule(width, list, number, rule_in(b, at));
+        let Verdict::Fine = v else {
+            return v;
+        };
+        left -= 1;
+        at += 18;
+        number += 1;
+    }
+    Verdict::Fine
+}
+
+// The rules of all lists of an image whose head and contents are right.
+fn bodies(b: &[u8]) -> Verdict
+    requires { ⌜ (4 ≤ length (now b)) × (length (now b) ≤ 65536) × (1 ≤ widthIn (now b)) × (widthIn (now b) ≤ 64)
+        × (4 + 8 * countIn (now b) + 18 * total (entriesOf (now b)) ≡ length (now b)) ⌝ }
+    ensures { λ r. ⌜ verdictReply r ≡ bodiesCheck (now (b .entry)) ⌝ }
+{
+    let width = wide(b[1]) as u32;
+    let mut left = wide(b[2]);
+    let mut from = 4 + 8 * left;
+    let mut at: usize = 4;
+    let mut list: usize = 1;
+    while 0 < left {
+        let count = u16_at(b, at + 4);
+        let v = rules_at(b, from, count, width, list);
+        let Verdict::Fine = v else {
+            return v;
+        };
+        from += 18 * count;
+        at += 8;
+        list += 1;
+        left -= 1;
+    }
+    Verdict::Fine
+}
+
+// Checks an image: its first refusal by the order of the checks.
+pub fn check(image: &[u8]) -> Verdict
+    ensures { λ r. ⌜ verdictReply r ≡ imageCheck (now (image .entry)) ⌝ }
+{
+    let h = head(image);
+    let Verdict::Fine = h else {
+        return h;
+    };
+    let c = contents(image);
+    let Verdict::Fine = c else {
+        return c;
+    };
+    bodies(image)
+}

@@ -1,0 +1,85 @@
+// Reading a list of an image out into three slices.
+ghost use mathlib.Core.Path.{_≡_};
+ghost use Prim.Native.Nat.{_+_, _*_, _≤_};
+ghost use lib.ListN.{length, drop};
+ghost use Rattle.rules.specs.Replies.{verdictReply, Refuses};
+ghost use Rattle.rules.specs.Slices.{Lent};
+ghost use Rattle.image.specs.Images.{rulesIn};
+ghost use Rattle.image.specs.Calls.{ReadOut};
+ghost use Rattle.image.specs.Replies.{outcomeReply};
+ghost use Rattle.image.specs.Filled.{Filled};
+use crate::Outcome;
+use crate::numbers::rule_in;
+use crate::places::find;
+use crate::questions::body_refusal;
+use rules::Refusal;
+use rules::Verdict;
+use rules::put_rule;
+
+// Puts the `count` rules from byte `from` on into three slices. Later places keep their contents.
+fn fill(
+    b: &[u8],
+    from: usize,
+    count: usize,
+    care: &mut [u64],
+    value: &mut [u64],
+    decision: &mut [u16],
+)
+    requires { ⌜ (from + 18 * count ≤ length (now b)) × (count ≤ length (now care))
+        × Lent (now care) (now value) (now decision) ⌝ }
+    ensures { λ _. ⌜ Filled (rulesIn count (drop from (now (b .entry))))
+        (now (care .entry)) (now (value .entry)) (now (decision .entry))
+        (now (care .exit)) (now (value .exit)) (now (decision .exit)) ⌝ }
+{
+    let mut i: usize = 0;
+    let mut at = from;
+    while i < count {
+        put_rule(care, value, decision, i, rule_in(b, at));
+        i += 1;
+        at += 18;
+    }
+}
+
+// A refusal as an outcome.
+fn not_read(number: usize) -> Outcome
+    ensures { λ r. ⌜ outcomeReply r ≡ Refuses number 0 0 ⌝ }
+{
+    Outcome::Refused(Refusal {
+        number,
+        list: 0,
+        rule: 0,
+    })
+}
+
+// Reads the list with that id out: the number of rules, and the rules in the three slices. The image's checks and 15,
+// then 2 and 7.
+pub fn read(
+    image: &[u8],
+    id: u16,
+    care: &mut [u64],
+    value: &mut [u64],
+    decision: &mut [u16],
+) -> Outcome
+    ensures { λ r. ⌜ ReadOut (now (image .entry)) id
+        (now (care .entry)) (now (value .entry)) (now (decision .entry)) r
+        (now (care .exit)) (now (value .exit)) (now (decision .exit)) ⌝ }
+{
+    let v = body_refusal(image, id);
+    if let Verdict::Refused(x) = v {
+        return Outcome::Refused(x);
+    }
+    if care.len() != value.len() {
+        return not_read(2);
+    }
+    if care.len() != decision.len() {
+        return not_read(2);
+    }
+    let p = find(image, id as usize);
+    let from = p.from;
+    let count = p.count;
+    if count > care.len() {
+        return not_read(7);
+    }
+    fill(image, from, count, care, value, decision);
+    Outcome::Number(count)
+}

@@ -1,0 +1,62 @@
+-- No second result: for each public call, two results that meet its promise are equal.
+use mathlib.Core.Path.{_≡_, sym, _∙_}
+use mathlib.Core.List.{List}
+use mathlib.Core.Bool.{Bool}
+use Prim.Native.Nat.{ℕ}
+use Rattle.rules.specs.declared.Rule.{Rule}
+use Rattle.rules.specs.declared.Verdict.{Verdict}
+use Rattle.rules.specs.declared.Looked.{Looked}
+use Rattle.rules.specs.declared.Holds.{Holds}
+use Rattle.rules.specs.declared.Measured.{Measured}
+use Rattle.rules.specs.Rules.{covers, crosses}
+use Rattle.rules.specs.Slices.{rulesOf, ruleAt, Placed}
+use Rattle.rules.specs.Replies.{verdictReply, lookedReply, holdsReply, measuredReply}
+use Rattle.rules.specs.Calls.{checkRule, checkList, lookedUp, coversReply, crossesReply, distanceReply}
+use Rattle.rules.proofs.ReplyLaws.{one-verdict, one-looked, one-holds, one-measured}
+
+-- two things that equal a third
+both : {A : Type 0} {a b c : A} → a ≡ c → b ≡ c → a ≡ b
+both p q = p ∙ sym q
+
+-- `check_rule`
+pub check-rule-once : (w l i : ℕ) (r : Rule) (a b : Verdict) → verdictReply a ≡ checkRule w l i r → verdictReply b ≡ checkRule w l i r → a ≡ b
+check-rule-once w l i r a b p q = one-verdict a b (both p q)
+
+-- `check_list_as`, and `check_list`, for which the list's number is 1
+pub check-list-once : (w l : ℕ) (cs vs ds : List ℕ) (a b : Verdict) → verdictReply a ≡ checkList w l cs vs ds
+    → verdictReply b ≡ checkList w l cs vs ds → a ≡ b
+check-list-once w l cs vs ds a b p q = one-verdict a b (both p q)
+
+-- `lookup`
+pub lookup-once : (w : ℕ) (cs vs ds : List ℕ) (h : ℕ) (a b : Looked) → lookedReply a ≡ lookedUp w cs vs ds h
+    → lookedReply b ≡ lookedUp w cs vs ds h → a ≡ b
+lookup-once w cs vs ds h a b p q = one-looked a b (both p q)
+
+-- `covers`
+pub covers-once : (w : ℕ) (x y : Rule) (a b : Holds) → holdsReply a ≡ coversReply w x y → holdsReply b ≡ coversReply w x y → a ≡ b
+covers-once w x y a b p q = one-holds a b (both p q)
+
+-- `crosses`
+pub crosses-once : (w : ℕ) (x y : Rule) (a b : Holds) → holdsReply a ≡ crossesReply w x y → holdsReply b ≡ crossesReply w x y → a ≡ b
+crosses-once w x y a b p q = one-holds a b (both p q)
+
+-- `distance`
+pub distance-once : (w : ℕ) (x y : Rule) (a b : Measured) → measuredReply a ≡ distanceReply w x y → measuredReply b ≡ distanceReply w x y → a ≡ b
+distance-once w x y a b p q = one-measured a b (both p q)
+
+-- `rule_covers` and `rule_crosses`
+pub rule-covers-once : (x y : Rule) (a b : Bool) → a ≡ covers x y → b ≡ covers x y → a ≡ b
+rule-covers-once x y a b p q = both p q
+
+pub rule-crosses-once : (x y : Rule) (a b : Bool) → a ≡ crosses x y → b ≡ crosses x y → a ≡ b
+rule-crosses-once x y a b p q = both p q
+
+-- `rule_at`
+pub rule-at-once : (cs vs ds : List ℕ) (i : ℕ) (a b : Rule) → a ≡ ruleAt (rulesOf cs vs ds) i → b ≡ ruleAt (rulesOf cs vs ds) i → a ≡ b
+rule-at-once cs vs ds i a b p q = both p q
+
+-- `put_rule`: what the three slices hold afterwards
+pub put-rule-once : (cs vs ds : List ℕ) (i : ℕ) (r : Rule) (c v d c′ v′ d′ : List ℕ) → Placed cs vs ds i r c v d → Placed cs vs ds i r c′ v′ d′
+    → (c ≡ c′) × (v ≡ v′) × (d ≡ d′)
+put-rule-once cs vs ds i r c v d c′ v′ d′ p q =
+    (both (p .cares) (q .cares), both (p .values) (q .values), both (p .decisions) (q .decisions))

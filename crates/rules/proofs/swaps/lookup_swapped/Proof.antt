@@ -1,0 +1,12 @@
+use borrow.Author.Needs.{needs}
+use Rattle.rules.proofs.swaps.lookup_swapped.Statement.{statement}
+use Rattle.rules.proofs.swaps.lookup_swapped.Tie as tie
+
+lookup-number-requires : tie.Need-lookup-number-requires
+lookup-number-requires c κs = search needs
+
+returns : tie.Need-returns
+returns c = c .lookup-number .ensures
+
+pub lookup-swapped-spec : {M : Type 1} → statement M
+lookup-swapped-spec = tie.close (tie.spec lookup-number-requires returns)

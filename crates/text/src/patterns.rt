@@ -1,0 +1,36 @@
+// Patterns written in 0, 1 and *.
+ghost use mathlib.Core.Path.{_≡_};
+ghost use Prim.Native.Nat.{_≤_};
+ghost use Rattle.text.specs.Patterns.{glyphAt, Printed};
+use rules::Rule;
+
+// What stands for a place.
+fn glyph(width: u32, rule: Rule, place: u32) -> u8
+    requires { ⌜ (1 ≤ place) × (place ≤ width) × (width ≤ 64) ⌝ }
+    ensures { λ r. ⌜ r ≡ glyphAt width rule place ⌝ }
+{
+    let shift = width - place;
+    if (rule.care >> shift) % 2 == 0 {
+        return 42;
+    }
+    (48 + (rule.value >> shift) % 2) as u8
+}
+
+// Puts the pattern of a rule at the start of `out`, place 1 first, and answers how many bytes it takes: the width, or 0
+// where the width is over 64 or `out` is too short, and then nothing changes.
+pub fn write_pattern(width: u32, rule: Rule, out: &mut [u8]) -> usize
+    ensures { λ r. ⌜ Printed width rule (now (out .entry)) r (now (out .exit)) ⌝ }
+{
+    if 64 < width {
+        return 0;
+    }
+    if out.len() < width as usize {
+        return 0;
+    }
+    let mut k: u32 = 0;
+    while k < width {
+        out[k as usize] = glyph(width, rule, k + 1);
+        k += 1;
+    }
+    width as usize
+}

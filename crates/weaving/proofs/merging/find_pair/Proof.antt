@@ -1,0 +1,134 @@
+use mathlib.Core.Path.{_≡_, refl, sym, ap, ap₂, _∙_, subst}
+use mathlib.Core.List.{List, [], _∷_, _++_}
+use Prim.Native.Nat.{ℕ, suc, _+_, _-_, _≤_, _<_}
+use native.Mathlib.Omega.{arith}
+use borrow.Author.Needs.{needs}
+use lib.ListN.{length, set}
+use Rattle.rules.specs.declared.Rule.{Rule}
+use Rattle.rules.specs.Slices.{rulesOf, ruleAt, Lent, Placed}
+use Rattle.rules.proofs.SliceLaws.{Kept, kept-lent, rules-length, placed-rules, placed-kept}
+use mathlib.Core.Bool.{true, false}
+use Rattle.rules.specs.Rules.{mergeable}
+use Rattle.weaving.specs.Inner.{NoRow, NoRows}
+use Rattle.weaving.specs.declared.merging.Found.{Found}
+use Rattle.weaving.proofs.PairLaws.{row-none, row-more, rows-none, rows-more, found-none}
+use Rattle.weaving.proofs.merging.find_pair.Statement.{statement}
+use Rattle.weaving.proofs.merging.find_pair.Tie as tie
+use Rattle.weaving.proofs.merging.find_pair.Reads as reads
+use Rattle.weaving.proofs.merging.find_pair.Lts as lts
+use Rattle.rules.proofs.rule_at.Reads as rule-at-reads
+use Rattle.weaving.proofs.merging.mergeable.Reads as mergeable-reads
+
+abbrev Inv-loop : tie.InvT-loop
+Inv-loop care value decision from to found₀ i a j₀ found j =
+    (i < j) × (j ≤ to) × NoRow (rulesOf care value decision) i j × (found ≡ Found.Nothing)
+
+abbrev μ-loop : tie.MeasureT-loop
+μ-loop care value decision from to found₀ i a j₀ found j = to - j
+
+abbrev Inv-search : tie.InvT-search
+Inv-search care value decision from to found₀ i₀ found i =
+    (from ≤ i) × (i ≤ to) × NoRows (rulesOf care value decision) from to i × (found ≡ Found.Nothing)
+
+abbrev μ-search : tie.MeasureT-search
+μ-search care value decision from to found₀ i₀ found i = to - i
+
+-- the list
+abbrev rs : tie.Start Inv-loop μ-loop Inv-search μ-search → List Rule
+rs c = rulesOf (c .args .care .now) (c .args .value .now) (c .args .decision .now)
+
+-- what `mergeable` says of the two entries
+same : (c : tie.After-mergeable Inv-loop μ-loop Inv-search μ-search)
+    → mergeable (ruleAt (rs (c .before .before .before .before .before .before .before .before .before .before)) (c .before .before .before .before .before .before .search .i)) (ruleAt (rs (c .before .before .before .before .before .before .before .before .before .before)) (c .before .before .before .loop .j)) ≡ c .mergeable .result
+same c = ap₂ mergeable (sym (c .before .before .before .before .rule-at .ensures)) (sym (c .before .rule-at2 .ensures)) ∙ sym (c .mergeable .ensures)
+
+-- the inner loop went through to `to`
+row-to : (c : tie.After-loop Inv-loop μ-loop Inv-search μ-search) → NoRow (rs (c .before .before .before .before .before .before .before .before)) (c .before .before .before .before .search .i) (c .before .before .before .before .before .before .before .before .args .to)
+row-to c = subst (NoRow _ _) (omega arith) (c .before .loop .inv .2)
+
+-- src/merging.rt:50:5
+search-holds : tie.Need-search-holds Inv-loop μ-loop Inv-search μ-search
+search-holds c = (search needs, search needs, rows-none _ _ _, refl)
+
+-- src/merging.rt:51:13
+rule-at-requires : tie.Need-rule-at-requires Inv-loop μ-loop Inv-search μ-search
+rule-at-requires c κs = search needs
+
+-- src/merging.rt:52:21
+add-j : tie.Need-add-j Inv-loop μ-loop Inv-search μ-search
+add-j c = search needs
+
+-- src/merging.rt:53:9
+loop-holds : tie.Need-loop-holds Inv-loop μ-loop Inv-search μ-search
+loop-holds c = (search needs, search needs, row-none _ _, c .before .before .search .inv .3)
+
+-- src/merging.rt:54:29
+rule-at-requires-2 : tie.Need-rule-at-requires-2 Inv-loop μ-loop Inv-search μ-search
+rule-at-requires-2 c κs = search needs
+
+-- src/merging.rt:54:16
+mergeable-requires : tie.Need-mergeable-requires Inv-loop μ-loop Inv-search μ-search
+mergeable-requires c κs = search needs
+
+-- src/merging.rt:58:13
+add-j-2 : tie.Need-add-j-2 Inv-loop μ-loop Inv-search μ-search
+add-j-2 c = search needs
+
+-- src/merging.rt:53:9
+loop-less : tie.Need-loop-less Inv-loop μ-loop Inv-search μ-search
+loop-less c = search needs
+
+-- src/merging.rt:53:9
+loop-again : tie.Need-loop-again Inv-loop μ-loop Inv-search μ-search
+loop-again c = (search needs, search needs, row-more _ _ _ (c .before .before .before .before .loop .inv .2) (same (c .before) ∙ c .if1 .left), c .before .before .before .before .loop .inv .3)
+
+-- src/merging.rt:60:9
+add-i : tie.Need-add-i Inv-loop μ-loop Inv-search μ-search
+add-i c = search needs
+
+-- src/merging.rt:50:5
+search-less : tie.Need-search-less Inv-loop μ-loop Inv-search μ-search
+search-less c = search needs
+
+-- src/merging.rt:50:5
+search-again : tie.Need-search-again Inv-loop μ-loop Inv-search μ-search
+search-again c = (search needs, search needs, rows-more _ _ _ _ (c .before .before .before .before .search .inv .2) (row-to c), c .before .loop .inv .3)
+
+-- src/merging.rt:43:1
+returns : tie.Need-returns Inv-loop μ-loop Inv-search μ-search
+returns c = found-none _ _ _ _ _ (c .before .search .inv .2) (c .before .search .inv .3) (omega arith)
+
+-- src/merging.rt:43:1
+returns-2 : tie.Need-returns-2 Inv-loop μ-loop Inv-search μ-search
+returns-2 c =
+    record {
+      start = search needs;
+      later = search needs;
+      inside = search needs;
+      rows = c .before .before .before .before .before .before .before .search .inv .2;
+      row = c .before .before .before .before .loop .inv .2;
+      yes = same (c .before) ∙ c .if1 .taken;
+    }
+
+pub find-pair-spec : {M : Type 1} → statement M
+find-pair-spec =
+    tie.close
+    (tie.spec
+    Inv-loop
+    μ-loop
+    Inv-search
+    μ-search
+    search-holds
+    rule-at-requires
+    add-j
+    loop-holds
+    rule-at-requires-2
+    mergeable-requires
+    add-j-2
+    loop-less
+    loop-again
+    add-i
+    search-less
+    search-again
+    returns
+    returns-2)

@@ -1,0 +1,106 @@
+use mathlib.Core.Path.{_≡_, refl, sym, ap, ap₂, _∙_, subst}
+use mathlib.Core.List.{List, [], _∷_, _++_}
+use Prim.Native.Nat.{ℕ, suc, _+_, _-_, _≤_, _<_}
+use native.Mathlib.Omega.{arith}
+use borrow.Author.Needs.{needs}
+use lib.ListN.{length, set}
+use Rattle.rules.specs.declared.Rule.{Rule}
+use Rattle.rules.specs.Slices.{rulesOf, ruleAt, Lent, Placed}
+use Rattle.rules.proofs.SliceLaws.{Kept, kept-lent, rules-length, placed-rules, placed-kept}
+use Rattle.weaving.proofs.PairLaws.{pair-of, none-of}
+use Rattle.weaving.proofs.GapLaws.{Merging, merging-none, merging-pair, merging-done}
+use Rattle.weaving.proofs.merging.merge_chunk.Statement.{statement}
+use Rattle.weaving.proofs.merging.merge_chunk.Tie as tie
+use Rattle.weaving.proofs.merging.merge_chunk.Reads as reads
+use Rattle.weaving.proofs.merging.merge_chunk.Lts as lts
+use Rattle.weaving.proofs.merging.find_pair.Reads as find-pair-reads
+use Rattle.weaving.proofs.merging.merge_pair.Reads as merge-pair-reads
+
+abbrev Inv-loop : tie.InvT-loop
+Inv-loop care₀ value₀ decision₀ from to end₀ care value decision end =
+    Kept care₀ value₀ decision₀ care value decision
+    × Merging (rulesOf care₀ value₀ decision₀) (rulesOf care value decision) from to end
+
+abbrev μ-loop : tie.MeasureT-loop
+μ-loop care₀ value₀ decision₀ from to end₀ care value decision end = end
+
+-- the chunk lies in the slices as they are
+fits : (c : tie.At-loop Inv-loop μ-loop) → c .before .before .before .before .args .to ≤ length (rulesOf (c .loop .care) (c .loop .value) (c .loop .decision))
+fits c =
+    omega (arith, rules-length _ _ _ (kept-lent _ _ _ _ _ _ (c .loop .inv .0) (c .before .before .before .before .pre .0)), c .loop .inv .0 .cares, c .before .before .before .before .pre .1 .1)
+
+abbrev cur : tie.At-loop Inv-loop μ-loop → List Rule
+cur c = rulesOf (c .loop .care) (c .loop .value) (c .loop .decision)
+
+-- src/merging.rt:114:5
+loop-holds : tie.Need-loop-holds Inv-loop μ-loop
+loop-holds c = (record { cares = refl; values = refl; decisions = refl }, merging-none _ _ _ (search needs))
+
+-- src/merging.rt:115:31
+find-pair-requires : tie.Need-find-pair-requires Inv-loop μ-loop
+find-pair-requires c κs = (search needs, search needs)
+
+-- src/merging.rt:115:23
+enum-known-i : tie.Need-enum-known-i Inv-loop μ-loop
+enum-known-i c = search needs
+
+-- src/merging.rt:116:13
+enum-told : tie.Need-enum-told Inv-loop μ-loop
+enum-told c = search needs
+
+-- src/merging.rt:116:13
+same-length : tie.Need-same-length Inv-loop μ-loop
+same-length c = search needs
+
+-- src/merging.rt:116:13
+same-length-2 : tie.Need-same-length-2 Inv-loop μ-loop
+same-length-2 c = search needs
+
+-- src/merging.rt:116:13
+same-length-3 : tie.Need-same-length-3 Inv-loop μ-loop
+same-length-3 c = search needs
+
+-- src/merging.rt:116:13
+returns : tie.Need-returns Inv-loop μ-loop
+returns c = merging-done _ _ _ _ _ (fits (c .before .before .before .before .before .before)) (c .before .before .before .before .before .before .loop .inv .1) (none-of (cur (c .before .before .before .before .before .before)) _ _ _ (c .before .before .find-pair .ensures) (c .enum-told .given .1))
+
+-- src/merging.rt:118:9
+merge-pair-requires : tie.Need-merge-pair-requires Inv-loop μ-loop
+merge-pair-requires c κs =
+    let p = pair-of (cur (c .before .before .before .before .before .before .before .before .before .before)) _ _ _ _ _ (c .before .before .before .before .before .before .find-pair .ensures) (c .before .before .before .before .i .given .1) in
+    (search needs, (p .later, p .inside, search needs))
+
+-- src/merging.rt:119:9
+sub-end : tie.Need-sub-end Inv-loop μ-loop
+sub-end c = let p = pair-of (cur (c .before .before .before .before .before .before .before .before .before .before .before .before .before .before .before .before .before)) _ _ _ _ _ (c .before .before .before .before .before .before .before .before .before .before .before .before .before .find-pair .ensures) (c .before .before .before .before .before .before .before .before .before .before .before .i .given .1) in omega (arith, p .inside)
+
+-- src/merging.rt:114:5
+loop-less : tie.Need-loop-less Inv-loop μ-loop
+loop-less c = let p = pair-of (cur (c .before .before .before .before .before .before .before .before .before .before .before .before .before .before .before .before .before)) _ _ _ _ _ (c .before .before .before .before .before .before .before .before .before .before .before .before .before .find-pair .ensures) (c .before .before .before .before .before .before .before .before .before .before .before .i .given .1) in omega (arith, p .inside)
+
+-- src/merging.rt:114:5
+loop-again : tie.Need-loop-again Inv-loop μ-loop
+loop-again c =
+    let p = pair-of (cur (c .before .before .before .before .before .before .before .before .before .before .before .before .before .before .before .before .before)) _ _ _ _ _ (c .before .before .before .before .before .before .before .before .before .before .before .before .before .find-pair .ensures) (c .before .before .before .before .before .before .before .before .before .before .before .i .given .1) in (
+      record { cares = search needs; values = search needs; decisions = search needs },
+      merging-pair _ _ _ _ _ _ _ _ (fits (c .before .before .before .before .before .before .before .before .before .before .before .before .before .before .before .before .before)) (c .before .before .before .before .before .before .before .before .before .before .before .before .before .before .before .before .before .loop .inv .1) p (c .before .before .before .before .before .before .merge-pair .ensures),
+    )
+
+pub merge-chunk-spec : {M : Type 1} → statement M
+merge-chunk-spec =
+    tie.close
+    (tie.spec
+    Inv-loop
+    μ-loop
+    loop-holds
+    find-pair-requires
+    enum-known-i
+    enum-told
+    same-length
+    same-length-2
+    same-length-3
+    returns
+    merge-pair-requires
+    sub-end
+    loop-less
+    loop-again)
