@@ -89,3 +89,20 @@ module _ (oc ov od ol : List ℕ) (om : ℕ) (nc nv nd nl : List ℕ) (nm care v
   pub step-end : (i j : ℕ) → Step i j → i ≡ length oc → j ≡ length nc → om ≡ nm → Alike (answerOf oc ov od ol om) (answerOf nc nv nd nl nm) care value
   unfolding Alike
   step-end i j S e e′ q h l inside = S .back h inside (rest-end _ _ om _ i (omega arith) ∙ q ∙ sym (rest-end _ _ nm _ j (omega arith)))
+
+  -- one side has run out, and a rule of the other covers the cube and decides as that side's miss does
+  pub step-old-covers : (i j : ℕ) → Ready oc ov od → Within oc ov ol care value → member ol i ≡ true → Step i j → i < length oc → j ≡ length nc
+      → getD od i 0 ≡ nm → bitAnd (getD oc i 0) care ≡ getD oc i 0 → Alike (answerOf oc ov od ol om) (answerOf nc nv nd nl nm) care value
+  unfolding Alike
+  step-old-covers i j ok w in-play S l e d c h u inside =
+      let p : hit oc ov ol h i ≡ true =
+      hit-yes oc ov ol h i in-play (cover-match h care value (getD oc i 0) (getD ov i 0) inside (ok .within i) (within-at oc ov ol care value w i in-play) c) in
+      S .back h inside (rest-take (hit oc ov ol h) od om (length oc) i l p ∙ d ∙ sym (rest-end _ _ nm _ j (omega arith)))
+
+  pub step-new-covers : (i j : ℕ) → Ready nc nv nd → Within nc nv nl care value → member nl j ≡ true → Step i j → i ≡ length oc → j < length nc
+      → getD nd j 0 ≡ om → bitAnd (getD nc j 0) care ≡ getD nc j 0 → Alike (answerOf oc ov od ol om) (answerOf nc nv nd nl nm) care value
+  unfolding Alike
+  step-new-covers i j ok w in-play S e l d c h u inside =
+      let p : hit nc nv nl h j ≡ true =
+      hit-yes nc nv nl h j in-play (cover-match h care value (getD nc j 0) (getD nv j 0) inside (ok .within j) (within-at nc nv nl care value w j in-play) c) in
+      S .back h inside (rest-end _ _ om _ i (omega arith) ∙ sym d ∙ sym (rest-take (hit nc nv nl h) nd nm (length nc) j l p))

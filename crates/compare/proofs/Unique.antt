@@ -25,12 +25,12 @@ one-ending (Ending.Refused x) Ending.Finished e = absurd (gives-refuses (sym e))
 one-ending (Ending.Refused x) (Ending.More k) e = absurd (gives-refuses (sym e))
 
 -- Two outcomes of one call that both meet its promise are the same: the count, the ending and all four slices afterwards.
-pub one-comparison : (w : ℕ) (oc ov od nc nv nd : List ℕ) (start : ℕ) (first last old new : List ℕ)
+pub compare-once : (w : ℕ) (oc ov od nc nv nd : List ℕ) (start : ℕ) (first last old new : List ℕ)
     (first′ last′ old′ new′ : List ℕ) (r : Compared) (first″ last″ old″ new″ : List ℕ) (s : Compared)
     → Comparison w oc ov od nc nv nd start first last old new first′ last′ old′ new′ r
     → Comparison w oc ov od nc nv nd start first last old new first″ last″ old″ new″ s
     → (r ≡ s) × (first′ ≡ first″) × (last′ ≡ last″) × (old′ ≡ old″) × (new′ ≡ new″)
-one-comparison w oc ov od nc nv nd start first last old new first′ last′ old′ new′ r first″ last″ old″ new″ s p q =
+compare-once w oc ov od nc nv nd start first last old new first′ last′ old′ new′ r first″ last″ old″ new″ s p q =
     let c : r .count ≡ s .count = p .count ∙ sym (q .count) in
     let e : r .ending ≡ s .ending = one-ending (r .ending) (s .ending) (p .reply ∙ sym (q .reply)) in
     (compared c e, p .firsts ∙ sym (q .firsts), p .lasts ∙ sym (q .lasts), p .olds ∙ sym (q .olds), p .news ∙ sym (q .news))

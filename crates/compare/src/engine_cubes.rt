@@ -52,6 +52,21 @@ fn same_rest(
     true
 }
 
+// Whether a rule covers the cube and decides what a miss counts as on the other side, whose rules have run out.
+fn settles(care: &[u64], decision: &[u16], i: usize, miss: u16, cube: u64) -> bool
+    requires { ⌜ (length (now care) ≤ 1024) × (length (now decision) ≡ length (now care)) × (i < length (now care)) ⌝ }
+    ensures { λ r. ⌜ (r ≡ true → (getD (now (decision .entry)) i 0 ≡ miss)
+        × (bitAnd (getD (now (care .entry)) i 0) cube ≡ getD (now (care .entry)) i 0)) ⌝ }
+{
+    if decision[i] != miss {
+        return false;
+    }
+    if (care[i] & cube) != care[i] {
+        return false;
+    }
+    true
+}
+
 // Walks both sets in step, up to the first pair that differs or to a rule that covers the cube.
 fn agree(
     oc: &[u64],
@@ -90,10 +105,17 @@ fn agree(
                 if om == nm {
                     return Pairing::Same;
                 }
+            } else {
+                if settles(nc, nd, j, om, cube.care) {
+                    return Pairing::Same;
+                }
             }
             return Pairing::Apart(i, j);
         }
         if j == m {
+            if settles(oc, od, i, nm, cube.care) {
+                return Pairing::Same;
+            }
             return Pairing::Apart(i, j);
         }
         if same_rest(oc, ov, od, i, nc, nv, nd, j, cube.care) {

@@ -6,12 +6,13 @@ use native.Mathlib.Omega.{arith}
 use borrow.Author.Needs.{needs}
 use lib.ListN.{length, getD}
 use Rattle.compare.specs.EngineSets.{Pending}
-use Rattle.compare.proofs.EngineLockstep.{Step, step-start, step-skip, step-more, step-cover, step-end}
+use Rattle.compare.proofs.EngineLockstep.{Step, step-start, step-skip, step-more, step-cover, step-old-covers, step-new-covers, step-end}
 use Rattle.compare.proofs.engine_cubes.agree.Statement.{statement}
 use Rattle.compare.proofs.engine_cubes.agree.Tie as tie
 use Rattle.compare.proofs.engine_cubes.agree.Reads as reads
 use Rattle.compare.proofs.engine_cubes.agree.Lts as lts
 use Rattle.compare.proofs.engine_cubes.same_rest.Reads as same-rest-reads
+use Rattle.compare.proofs.engine_cubes.settles.Reads as settles-reads
 use Rattle.compare.proofs.engine_sets.next.Reads as next-reads
 use Rattle.compare.proofs.engine_sets.start.Reads as start-reads
 
@@ -45,46 +46,46 @@ next-requires-2 c κs = (c .before .loop .inv .2, c .before .loop .inv .0 .new-f
 returns : tie.Need-returns Inv-loop μ-loop
 returns c = λ e. step-end _ _ _ _ _ _ _ _ _ _ _ _ (c .before .before .before .before .next .result .at) (c .before .before .before .next2 .result .at) (step-skip _ _ _ _ _ _ _ _ _ _ _ _ (c .before .before .before .before .before .loop .from) (c .before .before .before .before .before .loop .to) (c .before .before .before .before .next .result .at) (c .before .before .before .next2 .result .at) (c .before .before .before .before .before .loop .inv .0) (c .before .before .before .before .next .ensures .0 .after) (c .before .before .before .before .next .ensures .0 .few) (c .before .before .before .before .next .ensures .0 .none) (c .before .before .before .next2 .ensures .0 .after) (c .before .before .before .next2 .ensures .0 .few) (c .before .before .before .next2 .ensures .0 .none)) (c .before .before .if1 .taken) (c .before .if2 .taken) (c .if3 .taken)
 
-returns-2 : tie.Need-returns-2 Inv-loop μ-loop
-returns-2 c = λ e. let z : _≡_ {A = ℕ} 0 1 = cc in absurd (let f : ⊥ = omega arith in f)
-
 returns-3 : tie.Need-returns-3 Inv-loop μ-loop
 returns-3 c = λ e. let z : _≡_ {A = ℕ} 0 1 = cc in absurd (let f : ⊥ = omega arith in f)
 
 returns-4 : tie.Need-returns-4 Inv-loop μ-loop
 returns-4 c = λ e. let z : _≡_ {A = ℕ} 0 1 = cc in absurd (let f : ⊥ = omega arith in f)
 
-same-rest-requires : tie.Need-same-rest-requires Inv-loop μ-loop
-same-rest-requires c κs = (c .before .before .before .before .before .before .before .before .before .before .before .before .before .pre .0, c .before .before .before .before .before .before .before .before .before .before .before .before .before .pre .1, omega (arith, c .before .before .before .next .ensures .0 .few, c .before .if1 .left), omega (arith, c .before .before .next2 .ensures .0 .few, c .if4 .left))
-
-mul-if6 : tie.Need-mul-if6 Inv-loop μ-loop
-mul-if6 c = omega (arith, c .before .before .before .before .before .next .ensures .0 .few, c .before .before .before .if1 .left, c .before .before .before .before .before .before .before .before .before .before .before .before .before .before .before .pre .0 .few, c .before .before .before .before .before .before .before .before .before .before .before .before .before .before .before .pre .0 .values, c .before .before .before .before .before .before .before .before .before .before .before .before .before .before .before .pre .0 .decisions)
-
-shared-slice-read-if6 : tie.Need-shared-slice-read-if6 Inv-loop μ-loop
-shared-slice-read-if6 c = omega (arith, c .before .before .before .before .before .before .next .ensures .0 .few, c .before .before .before .before .if1 .left, c .before .before .before .before .before .before .before .before .before .before .before .before .before .before .before .before .pre .0 .few, c .before .before .before .before .before .before .before .before .before .before .before .before .before .before .before .before .pre .0 .values, c .before .before .before .before .before .before .before .before .before .before .before .before .before .before .before .before .pre .0 .decisions)
-
-mul-if6-2 : tie.Need-mul-if6-2 Inv-loop μ-loop
-mul-if6-2 c = omega (arith, c .before .before .before .before .before .before .before .next .ensures .0 .few, c .before .before .before .before .before .if1 .left, c .before .before .before .before .before .before .before .before .before .before .before .before .before .before .before .before .before .pre .0 .few, c .before .before .before .before .before .before .before .before .before .before .before .before .before .before .before .before .before .pre .0 .values, c .before .before .before .before .before .before .before .before .before .before .before .before .before .before .before .before .before .pre .0 .decisions)
-
-shared-slice-read-if6-2 : tie.Need-shared-slice-read-if6-2 Inv-loop μ-loop
-shared-slice-read-if6-2 c = omega (arith, c .before .before .before .before .before .before .before .before .next .ensures .0 .few, c .before .before .before .before .before .before .if1 .left, c .before .before .before .before .before .before .before .before .before .before .before .before .before .before .before .before .before .before .pre .0 .few, c .before .before .before .before .before .before .before .before .before .before .before .before .before .before .before .before .before .before .pre .0 .values, c .before .before .before .before .before .before .before .before .before .before .before .before .before .before .before .before .before .before .pre .0 .decisions)
-
-returns-5 : tie.Need-returns-5 Inv-loop μ-loop
-returns-5 c = λ e.
-    let l : c .before .before .before .before .before .before .before .before .before .next .result .at < length (c .before .before .before .before .before .before .before .before .before .before .before .before .before .before .before .before .before .before .before .args .oc .now) = omega (arith, c .before .before .before .before .before .before .before .before .before .next .ensures .0 .few, c .before .before .before .before .before .before .before .if1 .left) in
-    let r : c .before .before .before .before .before .before .before .before .next2 .result .at < length (c .before .before .before .before .before .before .before .before .before .before .before .before .before .before .before .before .before .before .before .args .nc .now) = omega (arith, c .before .before .before .before .before .before .before .before .next2 .ensures .0 .few, c .before .before .before .before .before .before .if4 .left) in
-    let E = c .before .before .before .before .before .same-rest .ensures (c .before .before .before .before .if5 .taken) in
-    step-cover _ _ _ _ _ _ _ _ _ _ _ _ (c .before .before .before .before .before .before .before .before .before .next .result .at) (c .before .before .before .before .before .before .before .before .next2 .result .at) (c .before .before .before .before .before .before .before .before .before .before .before .before .before .before .before .before .before .before .before .pre .0) (c .before .before .before .before .before .before .before .before .before .before .before .before .before .before .before .before .before .before .before .pre .1) (c .before .before .before .before .before .before .before .before .before .before .before .before .before .before .before .before .before .before .before .pre .2) (c .before .before .before .before .before .before .before .before .before .before .before .before .before .before .before .before .before .before .before .pre .3) (c .before .before .before .before .before .before .before .before .before .next .ensures .0 .found l) (c .before .before .before .before .before .before .before .before .next2 .ensures .0 .found r) (E .1) (E .2)
-    (step-skip _ _ _ _ _ _ _ _ _ _ _ _ (c .before .before .before .before .before .before .before .before .before .before .loop .from) (c .before .before .before .before .before .before .before .before .before .before .loop .to) (c .before .before .before .before .before .before .before .before .before .next .result .at) (c .before .before .before .before .before .before .before .before .next2 .result .at) (c .before .before .before .before .before .before .before .before .before .before .loop .inv .0) (c .before .before .before .before .before .before .before .before .before .next .ensures .0 .after) (c .before .before .before .before .before .before .before .before .before .next .ensures .0 .few) (c .before .before .before .before .before .before .before .before .before .next .ensures .0 .none) (c .before .before .before .before .before .before .before .before .next2 .ensures .0 .after) (c .before .before .before .before .before .before .before .before .next2 .ensures .0 .few) (c .before .before .before .before .before .before .before .before .next2 .ensures .0 .none)) l r (E .0) (c .if6 .taken)
-
 returns-6 : tie.Need-returns-6 Inv-loop μ-loop
 returns-6 c = λ e. let z : _≡_ {A = ℕ} 0 1 = cc in absurd (let f : ⊥ = omega arith in f)
+
+same-rest-requires : tie.Need-same-rest-requires Inv-loop μ-loop
+same-rest-requires c κs = (c .before .before .before .before .before .before .before .before .before .before .before .before .before .pre .0, c .before .before .before .before .before .before .before .before .before .before .before .before .before .pre .1, omega (arith, c .before .before .before .next .ensures .0 .few, c .before .if1 .left), omega (arith, c .before .before .next2 .ensures .0 .few, c .if5 .left))
+
+mul-if8 : tie.Need-mul-if8 Inv-loop μ-loop
+mul-if8 c = omega (arith, c .before .before .before .before .before .next .ensures .0 .few, c .before .before .before .if1 .left, c .before .before .before .before .before .before .before .before .before .before .before .before .before .before .before .pre .0 .few, c .before .before .before .before .before .before .before .before .before .before .before .before .before .before .before .pre .0 .values, c .before .before .before .before .before .before .before .before .before .before .before .before .before .before .before .pre .0 .decisions)
+
+shared-slice-read-if8 : tie.Need-shared-slice-read-if8 Inv-loop μ-loop
+shared-slice-read-if8 c = omega (arith, c .before .before .before .before .before .before .next .ensures .0 .few, c .before .before .before .before .if1 .left, c .before .before .before .before .before .before .before .before .before .before .before .before .before .before .before .before .pre .0 .few, c .before .before .before .before .before .before .before .before .before .before .before .before .before .before .before .before .pre .0 .values, c .before .before .before .before .before .before .before .before .before .before .before .before .before .before .before .before .pre .0 .decisions)
+
+mul-if8-2 : tie.Need-mul-if8-2 Inv-loop μ-loop
+mul-if8-2 c = omega (arith, c .before .before .before .before .before .before .before .next .ensures .0 .few, c .before .before .before .before .before .if1 .left, c .before .before .before .before .before .before .before .before .before .before .before .before .before .before .before .before .before .pre .0 .few, c .before .before .before .before .before .before .before .before .before .before .before .before .before .before .before .before .before .pre .0 .values, c .before .before .before .before .before .before .before .before .before .before .before .before .before .before .before .before .before .pre .0 .decisions)
+
+shared-slice-read-if8-2 : tie.Need-shared-slice-read-if8-2 Inv-loop μ-loop
+shared-slice-read-if8-2 c = omega (arith, c .before .before .before .before .before .before .before .before .next .ensures .0 .few, c .before .before .before .before .before .before .if1 .left, c .before .before .before .before .before .before .before .before .before .before .before .before .before .before .before .before .before .before .pre .0 .few, c .before .before .before .before .before .before .before .before .before .before .before .before .before .before .before .before .before .before .pre .0 .values, c .before .before .before .before .before .before .before .before .before .before .before .before .before .before .before .before .before .before .pre .0 .decisions)
+
+returns-7 : tie.Need-returns-7 Inv-loop μ-loop
+returns-7 c = λ e.
+    let l : c .before .before .before .before .before .before .before .before .before .next .result .at < length (c .before .before .before .before .before .before .before .before .before .before .before .before .before .before .before .before .before .before .before .args .oc .now) = omega (arith, c .before .before .before .before .before .before .before .before .before .next .ensures .0 .few, c .before .before .before .before .before .before .before .if1 .left) in
+    let r : c .before .before .before .before .before .before .before .before .next2 .result .at < length (c .before .before .before .before .before .before .before .before .before .before .before .before .before .before .before .before .before .before .before .args .nc .now) = omega (arith, c .before .before .before .before .before .before .before .before .next2 .ensures .0 .few, c .before .before .before .before .before .before .if5 .left) in
+    let E = c .before .before .before .before .before .same-rest .ensures (c .before .before .before .before .if7 .taken) in
+    step-cover _ _ _ _ _ _ _ _ _ _ _ _ (c .before .before .before .before .before .before .before .before .before .next .result .at) (c .before .before .before .before .before .before .before .before .next2 .result .at) (c .before .before .before .before .before .before .before .before .before .before .before .before .before .before .before .before .before .before .before .pre .0) (c .before .before .before .before .before .before .before .before .before .before .before .before .before .before .before .before .before .before .before .pre .1) (c .before .before .before .before .before .before .before .before .before .before .before .before .before .before .before .before .before .before .before .pre .2) (c .before .before .before .before .before .before .before .before .before .before .before .before .before .before .before .before .before .before .before .pre .3) (c .before .before .before .before .before .before .before .before .before .next .ensures .0 .found l) (c .before .before .before .before .before .before .before .before .next2 .ensures .0 .found r) (E .1) (E .2)
+    (step-skip _ _ _ _ _ _ _ _ _ _ _ _ (c .before .before .before .before .before .before .before .before .before .before .loop .from) (c .before .before .before .before .before .before .before .before .before .before .loop .to) (c .before .before .before .before .before .before .before .before .before .next .result .at) (c .before .before .before .before .before .before .before .before .next2 .result .at) (c .before .before .before .before .before .before .before .before .before .before .loop .inv .0) (c .before .before .before .before .before .before .before .before .before .next .ensures .0 .after) (c .before .before .before .before .before .before .before .before .before .next .ensures .0 .few) (c .before .before .before .before .before .before .before .before .before .next .ensures .0 .none) (c .before .before .before .before .before .before .before .before .next2 .ensures .0 .after) (c .before .before .before .before .before .before .before .before .next2 .ensures .0 .few) (c .before .before .before .before .before .before .before .before .next2 .ensures .0 .none)) l r (E .0) (c .if8 .taken)
+
+returns-8 : tie.Need-returns-8 Inv-loop μ-loop
+returns-8 c = λ e. let z : _≡_ {A = ℕ} 0 1 = cc in absurd (let f : ⊥ = omega arith in f)
 
 add-from : tie.Need-add-from Inv-loop μ-loop
 add-from c = omega (arith, c .before .before .before .before .before .before .before .before .before .next .ensures .0 .few, c .before .before .before .before .before .before .before .if1 .left, c .before .before .before .before .before .before .before .before .before .before .before .before .before .before .before .before .before .before .before .pre .0 .few, c .before .before .before .before .before .before .before .before .before .before .before .before .before .before .before .before .before .before .before .pre .0 .values, c .before .before .before .before .before .before .before .before .before .before .before .before .before .before .before .before .before .before .before .pre .0 .decisions)
 
 add-to : tie.Need-add-to Inv-loop μ-loop
-add-to c = omega (arith, c .before .before .before .before .before .before .before .before .next2 .ensures .0 .few, c .before .before .before .before .before .before .if4 .left, c .before .before .before .before .before .before .before .before .before .before .before .before .before .before .before .before .before .before .before .pre .1 .few)
+add-to c = omega (arith, c .before .before .before .before .before .before .before .before .next2 .ensures .0 .few, c .before .before .before .before .before .before .if5 .left, c .before .before .before .before .before .before .before .before .before .before .before .before .before .before .before .before .before .before .before .pre .1 .few)
 
 loop-less : tie.Need-loop-less Inv-loop μ-loop
 loop-less c = omega (arith, c .before .before .before .before .before .before .before .before .before .next .ensures .0 .after, c .before .before .before .before .before .before .before .before .before .next .ensures .0 .few, c .before .before .before .before .before .before .before .if1 .left)
@@ -92,13 +93,35 @@ loop-less c = omega (arith, c .before .before .before .before .before .before .b
 loop-again : tie.Need-loop-again Inv-loop μ-loop
 loop-again c =
     let l : c .before .before .before .before .before .before .before .before .before .next .result .at < length (c .before .before .before .before .before .before .before .before .before .before .before .before .before .before .before .before .before .before .before .args .oc .now) = omega (arith, c .before .before .before .before .before .before .before .before .before .next .ensures .0 .few, c .before .before .before .before .before .before .before .if1 .left) in
-    let r : c .before .before .before .before .before .before .before .before .next2 .result .at < length (c .before .before .before .before .before .before .before .before .before .before .before .before .before .before .before .before .before .before .before .args .nc .now) = omega (arith, c .before .before .before .before .before .before .before .before .next2 .ensures .0 .few, c .before .before .before .before .before .before .if4 .left) in
-    let E = c .before .before .before .before .before .same-rest .ensures (c .before .before .before .before .if5 .taken) in (
+    let r : c .before .before .before .before .before .before .before .before .next2 .result .at < length (c .before .before .before .before .before .before .before .before .before .before .before .before .before .before .before .before .before .before .before .args .nc .now) = omega (arith, c .before .before .before .before .before .before .before .before .next2 .ensures .0 .few, c .before .before .before .before .before .before .if5 .left) in
+    let E = c .before .before .before .before .before .same-rest .ensures (c .before .before .before .before .if7 .taken) in (
       step-more _ _ _ _ _ _ _ _ _ _ _ _ (c .before .before .before .before .before .before .before .before .before .next .result .at) (c .before .before .before .before .before .before .before .before .next2 .result .at) (c .before .before .before .before .before .before .before .before .before .before .before .before .before .before .before .before .before .before .before .pre .0) (c .before .before .before .before .before .before .before .before .before .before .before .before .before .before .before .before .before .before .before .pre .1) (c .before .before .before .before .before .before .before .before .before .before .before .before .before .before .before .before .before .before .before .pre .2) (c .before .before .before .before .before .before .before .before .before .before .before .before .before .before .before .before .before .before .before .pre .3) (c .before .before .before .before .before .before .before .before .before .next .ensures .0 .found l) (c .before .before .before .before .before .before .before .before .next2 .ensures .0 .found r) (E .1) (E .2)
           (step-skip _ _ _ _ _ _ _ _ _ _ _ _ (c .before .before .before .before .before .before .before .before .before .before .loop .from) (c .before .before .before .before .before .before .before .before .before .before .loop .to) (c .before .before .before .before .before .before .before .before .before .next .result .at) (c .before .before .before .before .before .before .before .before .next2 .result .at) (c .before .before .before .before .before .before .before .before .before .before .loop .inv .0) (c .before .before .before .before .before .before .before .before .before .next .ensures .0 .after) (c .before .before .before .before .before .before .before .before .before .next .ensures .0 .few) (c .before .before .before .before .before .before .before .before .before .next .ensures .0 .none) (c .before .before .before .before .before .before .before .before .next2 .ensures .0 .after) (c .before .before .before .before .before .before .before .before .next2 .ensures .0 .few) (c .before .before .before .before .before .before .before .before .next2 .ensures .0 .none)) l r (E .0),
       c .before .before .before .before .before .before .before .before .before .next .ensures .1 l,
       c .before .before .before .before .before .before .before .before .next2 .ensures .1 r,
     )
+
+settles-requires : tie.Need-settles-requires Inv-loop μ-loop
+settles-requires c κs = (c .before .before .before .before .before .before .before .before .before .before .before .before .before .pre .1 .few, c .before .before .before .before .before .before .before .before .before .before .before .before .before .pre .1 .decisions, omega (arith, c .before .before .next2 .ensures .0 .few, c .if2 .left))
+
+returns-2 : tie.Need-returns-2 Inv-loop μ-loop
+returns-2 c = λ e.
+    let r : c .before .before .before .before .next2 .result .at < length (c .before .before .before .before .before .before .before .before .before .before .before .before .before .before .before .args .nc .now) = omega (arith, c .before .before .before .before .next2 .ensures .0 .few, c .before .before .if2 .left) in
+    let E = c .before .settles .ensures (c .if4 .taken) in
+    step-new-covers _ _ _ _ _ _ _ _ _ _ _ _ (c .before .before .before .before .before .next .result .at) (c .before .before .before .before .next2 .result .at) (c .before .before .before .before .before .before .before .before .before .before .before .before .before .before .before .pre .1) (c .before .before .before .before .before .before .before .before .before .before .before .before .before .before .before .pre .3) (c .before .before .before .before .next2 .ensures .0 .found r)
+    (step-skip _ _ _ _ _ _ _ _ _ _ _ _ (c .before .before .before .before .before .before .loop .from) (c .before .before .before .before .before .before .loop .to) (c .before .before .before .before .before .next .result .at) (c .before .before .before .before .next2 .result .at) (c .before .before .before .before .before .before .loop .inv .0) (c .before .before .before .before .before .next .ensures .0 .after) (c .before .before .before .before .before .next .ensures .0 .few) (c .before .before .before .before .before .next .ensures .0 .none) (c .before .before .before .before .next2 .ensures .0 .after) (c .before .before .before .before .next2 .ensures .0 .few) (c .before .before .before .before .next2 .ensures .0 .none))
+    (c .before .before .before .if1 .taken) r (E .0) (E .1)
+
+settles-requires-2 : tie.Need-settles-requires-2 Inv-loop μ-loop
+settles-requires-2 c κs = (c .before .before .before .before .before .before .before .before .before .before .before .before .before .pre .0 .few, c .before .before .before .before .before .before .before .before .before .before .before .before .before .pre .0 .decisions, omega (arith, c .before .before .before .next .ensures .0 .few, c .before .if1 .left))
+
+returns-5 : tie.Need-returns-5 Inv-loop μ-loop
+returns-5 c = λ e.
+    let l : c .before .before .before .before .before .next .result .at < length (c .before .before .before .before .before .before .before .before .before .before .before .before .before .before .before .args .oc .now) = omega (arith, c .before .before .before .before .before .next .ensures .0 .few, c .before .before .before .if1 .left) in
+    let E = c .before .settles2 .ensures (c .if6 .taken) in
+    step-old-covers _ _ _ _ _ _ _ _ _ _ _ _ (c .before .before .before .before .before .next .result .at) (c .before .before .before .before .next2 .result .at) (c .before .before .before .before .before .before .before .before .before .before .before .before .before .before .before .pre .0) (c .before .before .before .before .before .before .before .before .before .before .before .before .before .before .before .pre .2) (c .before .before .before .before .before .next .ensures .0 .found l)
+    (step-skip _ _ _ _ _ _ _ _ _ _ _ _ (c .before .before .before .before .before .before .loop .from) (c .before .before .before .before .before .before .loop .to) (c .before .before .before .before .before .next .result .at) (c .before .before .before .before .next2 .result .at) (c .before .before .before .before .before .before .loop .inv .0) (c .before .before .before .before .before .next .ensures .0 .after) (c .before .before .before .before .before .next .ensures .0 .few) (c .before .before .before .before .before .next .ensures .0 .none) (c .before .before .before .before .next2 .ensures .0 .after) (c .before .before .before .before .next2 .ensures .0 .few) (c .before .before .before .before .next2 .ensures .0 .none))
+    l (c .before .before .if5 .taken) (E .0) (E .1)
 
 pub agree-spec : {M : Type 1} → statement M
 agree-spec =
@@ -114,16 +137,20 @@ agree-spec =
     next-requires
     next-requires-2
     returns
+    settles-requires
     returns-2
     returns-3
     returns-4
-    same-rest-requires
-    mul-if6
-    shared-slice-read-if6
-    mul-if6-2
-    shared-slice-read-if6-2
+    settles-requires-2
     returns-5
     returns-6
+    same-rest-requires
+    mul-if8
+    shared-slice-read-if8
+    mul-if8-2
+    shared-slice-read-if8-2
+    returns-7
+    returns-8
     add-from
     add-to
     loop-less
