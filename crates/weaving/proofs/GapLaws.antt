@@ -6,12 +6,16 @@ use Prim.Native.Nat.{ℕ, zero, suc, _+_, _-_, _≤_, _<_}
 use native.Mathlib.Omega.{arith}
 use native.Mathlib.Numerals.{add-one}
 use lib.ListN.{length, getD, take, drop, set, length-set, take-append-drop}
-use lib.Seq.{take-nil, slice, length-slice, getD-take, getD-drop, take-set-lt, drop-set-add, take-suc, take-suc-set, drop-set-lt, drop-drop, take-set-le, take-take}
+use lib.Seq.{take-nil, slice, length-slice, getD-take, getD-drop, getD-set-other, take-set-lt, drop-set-add, take-suc, take-suc-set, drop-set-lt, drop-drop, take-set-le, take-take}
+use lib.Dec.{ltb}
+use mathlib.Core.Logic.{_≢_}
+use borrow.Author.Tests.{ltb-true, ltb-false}
 use Rattle.rules.specs.declared.Rule.{Rule}
 use Rattle.rules.specs.Rules.{mergeable, merged}
 use Rattle.rules.specs.Slices.{ruleAt, blank}
+use Rattle.rules.proofs.Tests.{split, true-false}
 use Rattle.weaving.specs.Weave.{Pick, nothing, pick, past, pickIf, partner, Try, stuck, found, mergeHead, mergeOnce, again, mergeAll, mergeChunk}
-use Rattle.weaving.specs.Inner.{Apart, NoRow, NoRows, PairAt, remove, Closed, pairAt, Merged}
+use Rattle.weaving.specs.Inner.{Apart, NoRow, NoRows, Tried, StillDone, PairAt, remove, Closed, pairAt, Merged}
 use Rattle.weaving.proofs.MergeLaws.{Shorter, once-shorter}
 
 -- ---- the first pair of a whole list
@@ -274,3 +278,69 @@ merging-done old l f to end fits g p =
           (sym (g .same ∙ chunk-stuck (slice f end l) (part-stuck l f end (omega (arith, g .last)) p)));
       back = g .back;
     }
+
+-- ---- what stays tried
+
+before-at : (j k : ℕ) (l : List Rule) → k < j → ruleAt (remove j l) k ≡ ruleAt l k
+before-at j k [] h = refl
+before-at zero k (r ∷ rs) h = absurd (omega arith)
+before-at (suc j) zero (r ∷ rs) h = refl
+before-at (suc j) (suc k) (r ∷ rs) h = before-at j k rs (omega arith)
+
+module _ (l new : List Rule) (f row done end i j r : ℕ) (t : Tried l f row done end) (p : PairAt l f end i j) (s : StillDone done i j r)
+    (z : Closed (pairAt l i j) new j end) where
+  at-new : (k : ℕ) → k < end - 1 → ruleAt new k ≡ ruleAt (remove j (pairAt l i j)) k
+  at-new k h =
+      sym (getD-take (end - 1) new k blank h) ∙ ap (λ (x : List Rule). ruleAt x k) (z .kept) ∙ getD-take (end - 1) (remove j (pairAt l i j)) k blank h
+
+  at-other : (k : ℕ) → (k ≡ i → ⊥) → ruleAt (pairAt l i j) k ≡ ruleAt l k
+  unfolding pairAt
+  at-other k n = getD-set-other l i k _ blank n
+
+  -- entries before j stand where they stood, the others have moved down by one
+  at-low : (k : ℕ) → k < end - 1 → k < j → (k ≡ i → ⊥) → ruleAt new k ≡ ruleAt l k
+  at-low k h q n = at-new k h ∙ before-at j k (pairAt l i j) q ∙ at-other k n
+
+  at-high : (k : ℕ) → k < end - 1 → j ≤ k → ruleAt new k ≡ ruleAt l (suc k)
+  at-high k h q =
+      at-new k h ∙ remove-at j k (pairAt l i j) q ∙ at-other (suc k) (λ e. omega (arith, p .later))
+
+  -- an entry after i that changed before is j
+  not-row : (m : ℕ) → i < m → i < done → (m ≡ j → ⊥) → m ≡ row → ⊥
+  not-row m h d n e =
+      true-false (p .yes) (t .apart i j (p .start) d (p .later) (p .inside) (λ q. omega arith) (λ q. n (e ∙ sym q)))
+
+  apart-old : (k m : ℕ) → f ≤ k → k < m → m < end → (k ≡ i → ⊥) → (k ≡ j → ⊥) → (m ≡ j → ⊥) → ((k < i → ⊥) → k < done) → Apart l k m
+  apart-old k m a b c n x y d =
+      split (ltb k i) (λ e. p .rows .rows k a (ltb-true k i e) m b c)
+      (λ e.
+      let q : i ≤ k = ltb-false k i e in
+      let u : k < done = d (λ h. omega arith) in
+      let v : k ≢ i = n in
+      let g : i < k = omega arith in
+      t .apart k m a u b c (not-row k g (omega arith) x) (not-row m (omega arith) (omega arith) y))
+
+  pub tried-merged : Tried new f i r (end - 1)
+  tried-merged =
+      record {
+        some = λ h. omega (arith, p .later, p .inside);
+        apart =
+            λ k m a d b c n x.
+            split (ltb m j)
+            (λ e.
+            let q : m < j = ltb-true m j e in
+            ap₂ mergeable (at-low k (omega arith) (omega arith) n) (at-low m c q x)
+            ∙ apart-old k m a b (omega arith) n (λ g. omega arith) (λ g. omega arith) (s .low k d (omega arith)))
+            (λ e.
+            let q : j ≤ m = ltb-false m j e in
+            split (ltb k j)
+            (λ g.
+            let w : k < j = ltb-true k j g in
+            ap₂ mergeable (at-low k (omega arith) w n) (at-high m c q)
+            ∙ apart-old k (suc m) a (omega arith) (omega arith) n (λ y. omega arith) (λ y. omega arith) (s .low k d w))
+            (λ g.
+            let w : j ≤ k = ltb-false k j g in
+            ap₂ mergeable (at-high k (omega arith) w) (at-high m c q)
+            ∙ apart-old (suc k) (suc m) (omega arith) (omega arith) (omega arith) (λ y. omega (arith, p .later)) (λ y. omega arith) (λ y. omega arith)
+            (λ y. omega (arith, s .high k d (p .later) w))));
+      }

@@ -10,15 +10,41 @@ use Rattle.rules.specs.declared.Rule.{Rule}
 use Rattle.rules.specs.Slices.{ruleAt}
 use Rattle.rules.proofs.Tests.{split}
 use Rattle.weaving.specs.declared.merging.Found.{Found}
-use Rattle.weaving.specs.Inner.{Apart, NoRows, NoRow, PairAt, FoundIn}
+use Rattle.weaving.specs.Inner.{Apart, NoRows, NoRow, Tried, Untried, PairAt, FoundIn}
 
 -- below j + 1: below j, or j
 below : (C : ℕ → Type 0) (l j : ℕ) → l < j + 1 → (l < j → C l) → C j → C l
 below C l j q f x =
     split (ltb l j) (λ e. f (ltb-true l j e)) (λ e. subst C (omega (arith, ltb-false l j e)) x)
 
-pub row-none : (rs : List Rule) (i : ℕ) → NoRow rs i (i + 1)
-row-none rs i = record { row = λ l p q. absurd (omega arith) }
+-- ---- what was tried before
+
+pub tried-none : (rs : List Rule) (from to : ℕ) → Tried rs from from from to
+tried-none rs from to = record { some = λ h. h; apart = λ k l p q. absurd (omega arith) }
+
+-- the entries before the span were tried
+pub row-start : (rs : List Rule) (from row done to i start stop : ℕ) → from ≤ i → Tried rs from row done to → Untried i row done to start stop
+    → NoRow rs i start
+row-start rs from row done to i start stop h t u =
+    record {
+      row =
+          λ l p q.
+          let b = u .below l p q in
+          t .apart i l h (b .0) p (omega (arith, u .order, u .inside)) (b .1 .0) (b .1 .1);
+    }
+
+-- and so were those after it
+pub row-stop : (rs : List Rule) (from row done to i start stop : ℕ) → from ≤ i → Tried rs from row done to → Untried i row done to start stop
+    → NoRow rs i stop → NoRow rs i to
+row-stop rs from row done to i start stop h t u n =
+    record {
+      row =
+          λ l p q.
+          split (ltb l stop) (λ e. n .row l p (ltb-true l stop e))
+          (λ e.
+          let b = u .above l p (ltb-false l stop e) q in
+          t .apart i l h (b .0) p q (b .1 .0) (b .1 .1));
+    }
 
 pub row-more : (rs : List Rule) (i j : ℕ) → NoRow rs i j → Apart rs i j → NoRow rs i (j + 1)
 row-more rs i j h a = record { row = λ l p q. below (λ (k : ℕ). Apart rs i k) l j q (h .row l p) a }

@@ -4,7 +4,7 @@ ghost use Prim.Native.Nat.{_≤_, _<_};
 ghost use lib.ListN.{length};
 ghost use Rattle.rules.specs.Rules.{mergeable as mergeableOf, merged as mergedOf};
 ghost use Rattle.rules.specs.Slices.{rulesOf, Lent};
-ghost use Rattle.weaving.specs.Inner.{FoundIn, Closed, pairAt, Merged};
+ghost use Rattle.weaving.specs.Inner.{Tried, Untried, StillDone, FoundIn, Closed, pairAt, Merged};
 use rules::Rule;
 use rules::put_rule;
 use rules::rule_at;
@@ -39,18 +39,61 @@ pub(crate) enum Found {
     Nothing,
 }
 
-// The first mergeable pair of the entries from..to: least first position, then least second.
-fn find_pair(care: &[u64], value: &[u64], decision: &[u16], from: usize, to: usize) -> Found
+// The later entries with which a row is still to be tried: start..stop.
+pub(crate) struct Span {
+    pub start: usize,
+    pub stop: usize,
+}
+
+// Which later entries before `to` row i is still to be tried with. The rows before `done` were tried, but entry `row` has
+// changed since: a row before it is tried with that entry alone, that row itself and the rows from `done` on with all.
+fn untried(i: usize, row: usize, done: usize, to: usize) -> Span
+    requires { ⌜ (i < to) × (row < to) ⌝ }
+    ensures { λ s. ⌜ Untried i row done to (s .start) (s .stop) ⌝ }
+{
+    if i < done {
+        if i < row {
+            return Span {
+                start: row,
+                stop: row + 1,
+            };
+        }
+        if row < i {
+            return Span {
+                start: to,
+                stop: to,
+            };
+        }
+    }
+    Span {
+        start: i + 1,
+        stop: to,
+    }
+}
+
+// The first mergeable pair of the entries from..to: least first position, then least second. What was tried before, and
+// has not changed since, is not tried again.
+fn find_pair(
+    care: &[u64],
+    value: &[u64],
+    decision: &[u16],
+    from: usize,
+    row: usize,
+    done: usize,
+    to: usize,
+) -> Found
     requires { ⌜ Lent (now care) (now value) (now decision) ⌝ }
     requires { ⌜ (from ≤ to) × (to ≤ length (now care)) ⌝ }
+    requires { ⌜ Tried (rulesOf (now care) (now value) (now decision)) from row done to ⌝ }
     ensures { λ p. ⌜ FoundIn (rulesOf (now (care .entry)) (now (value .entry)) (now (decision .entry))) from to p ⌝ }
 {
     let mut found = Found::Nothing;
     let mut i = from;
     'search: while i < to {
         let a = rule_at(care, value, decision, i);
-        let mut j = i + 1;
-        while j < to {
+        let span = untried(i, row, done, to);
+        let mut j = span.start;
+        while j < span.stop {
             if mergeable(a, rule_at(care, value, decision, j)) {
                 found = Found::At(i, j);
                 break 'search;
@@ -97,6 +140,19 @@ fn merge_pair(
     close_gap(care, value, decision, j, end);
 }
 
+// How many rows stay tried when the pair (i, j) is merged: the rows before i were tried to get there, and entry j is gone.
+fn still_done(done: usize, i: usize, j: usize) -> usize
+    ensures { λ r. ⌜ StillDone done i j r ⌝ }
+{
+    if j < done {
+        return done - 1;
+    }
+    if done < i {
+        return i;
+    }
+    done
+}
+
 // Merges the entries from..to until no pair is left, and returns where they then end.
 pub(crate) fn merge_chunk(
     care: &mut [u64],
@@ -111,11 +167,15 @@ pub(crate) fn merge_chunk(
         (rulesOf (now (care .exit)) (now (value .exit)) (now (decision .exit))) from to end ⌝ }
 {
     let mut end = to;
+    let mut row = from;
+    let mut done = from;
     loop {
-        let Found::At(i, j) = find_pair(care, value, decision, from, end) else {
+        let Found::At(i, j) = find_pair(care, value, decision, from, row, done, end) else {
             return end;
         };
         merge_pair(care, value, decision, i, j, end);
         end -= 1;
+        row = i;
+        done = still_done(done, i, j);
     }
 }
