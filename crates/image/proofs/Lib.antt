@@ -8,3 +8,9 @@ pub mod AskLaws
 pub mod PutLaws
 pub mod GivenLaws
 pub mod WriteLaws
+pub mod BackLaws
+pub mod AgainLaws
+pub mod CarryLaws
+pub mod Theorems
+pub mod Unique
+pub mod Rows

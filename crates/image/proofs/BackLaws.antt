@@ -1,0 +1,145 @@
+-- What was read, written again: the bytes of an image that passed.
+use mathlib.Core.Path.{_≡_, refl, sym, ap, ap₂, _∙_, subst}
+use mathlib.Core.List.{List, [], _∷_, _++_, append-assoc}
+use Prim.Native.Nat.{ℕ, zero, suc, _+_, _-_, _*_, _/_, _%_, _^_, _≤_, _<_}
+use native.Mathlib.Nat.{mul-suc, not-suc-le-zero, le-refl}
+use native.Mathlib.Omega.{arith}
+use lib.Arith.{digits-div, digits-mod}
+use lib.ListN.{length, getD, take, drop, length-drop, take-append-drop}
+use lib.Seq.{drop-cons, drop-drop, take-add, length-take-le, take-all}
+use Rattle.rules.specs.Lists.{All}
+use Rattle.rules.specs.Replies.{Reply, Gives, passed, _then_}
+use Rattle.rules.proofs.ReplyLaws.{then-second}
+use Rattle.image.specs.Bytes.{le, num, part, bytes}
+use Rattle.image.specs.Images.{Named, Entry, entryWith, ruleIn, rulesIn, entryIn, entriesIn, listsIn, total, countIn, widthIn, entriesOf, listsOf, ruleBytes, rulesBytes, bodiesBytes, entryBytes, entriesFor, contentsBytes, bytesOf}
+use Rattle.image.specs.Checks.{entryCheck, entriesCheck, contentsCheck, headCheck, bodiesCheck, imageCheck}
+use Rattle.image.proofs.NumberLaws.{length-part}
+use Rattle.image.proofs.BareLaws.{bare-first, bare-entry, bare-head, bare-contents}
+use Rattle.image.proofs.HeadLaws.{entry-facts, head-facts}
+use Rattle.image.proofs.StepLaws.{contents-total}
+use Rattle.image.proofs.SeekLaws.{length-entries, length-rulesIn}
+
+-- numbers that are bytes
+abbrev pub AreBytes : List ℕ → Type 0
+AreBytes bs = All (λ (b : ℕ). b < 256) bs
+
+pub bytes-drop : (n : ℕ) (s : List ℕ) → AreBytes s → AreBytes (drop n s)
+bytes-drop zero s h = h
+bytes-drop (suc n) [] h = h
+bytes-drop (suc n) (x ∷ s) h = bytes-drop n s (h .1)
+
+bytes-take : (n : ℕ) (s : List ℕ) → AreBytes s → AreBytes (take n s)
+bytes-take zero s h = tt
+bytes-take (suc n) [] h = tt
+bytes-take (suc n) (x ∷ s) h = (h .0, bytes-take n s (h .1))
+
+bytes-le : (l : List ℕ) → AreBytes l → bytes (length l) (le l) ≡ l
+unfolding bytes le
+bytes-le [] h = refl
+bytes-le (b ∷ l) h =
+    λ j. digits-mod (le l) (h .0) j ∷ (ap (bytes (length l)) (digits-div (le l) (h .0)) ∙ bytes-le l (h .1)) j
+
+bytes-num : (n p : ℕ) (s : List ℕ) → AreBytes s → p + n ≤ length s → bytes n (num n p s) ≡ part n p s
+bytes-num n p s h fits =
+    ap (λ (k : ℕ). bytes k (num n p s)) (sym (length-part n p s fits))
+    ∙ bytes-le (part n p s) (bytes-take n (drop p s) (bytes-drop p s h))
+
+glue : (a b n : ℕ) (s : List ℕ) → n ≡ a + b → take a s ++ take b (drop a s) ≡ take n s
+glue a b n s e = sym (ap (λ (k : ℕ). take k s) e ∙ take-add a b s)
+
+-- three parts in a row
+three : (i j k : ℕ) (s : List ℕ) → part i 0 s ++ (part j i s ++ part k (i + j) s) ≡ take (i + (j + k)) s
+three i j k s =
+    sym (take-add i (j + k) s
+    ∙ ap (λ (l : List ℕ). take i s ++ l) (take-add j k (drop i s) ∙ ap (λ (l : List ℕ). part j i s ++ take k l) (drop-drop j i s)))
+
+rule-back : (s : List ℕ) → AreBytes s → 18 ≤ length s → ruleBytes (ruleIn s) ≡ take 18 s
+rule-back s h fits =
+    (λ j. bytes-num 8 0 s h (omega arith) j ++ (bytes-num 8 8 s h (omega arith) j ++ bytes-num 2 16 s h (omega arith) j)) ∙ three 8 8 2 s
+
+entry-back : (s : List ℕ) → AreBytes s → 8 ≤ length s → entryBytes (entryIn s) ≡ take 8 s
+entry-back s h fits =
+    (λ j. bytes-num 4 0 s h (omega arith) j ++ (bytes-num 2 4 s h (omega arith) j ++ bytes-num 2 6 s h (omega arith) j)) ∙ three 4 2 2 s
+
+pub rules-back : (n : ℕ) (s : List ℕ) → AreBytes s → 18 * n ≤ length s → rulesBytes (rulesIn n s) ≡ take (18 * n) s
+unfolding rulesBytes rulesIn
+rules-back zero s h fits = refl
+rules-back (suc n) s h fits =
+    ap₂ (λ (x y : List ℕ). x ++ y) (rule-back s h (omega arith)) (rules-back n (drop 18 s) (bytes-drop 18 s h) (omega (arith, length-drop 18 s)))
+    ∙ glue 18 (18 * n) (18 * suc n) s (omega arith)
+
+contents-back : (n : ℕ) (s : List ℕ) → AreBytes s → 8 * n ≤ length s → contentsBytes (entriesIn n s) ≡ take (8 * n) s
+unfolding contentsBytes entriesIn
+contents-back zero s h fits = refl
+contents-back (suc n) s h fits =
+    ap₂ (λ (x y : List ℕ). x ++ y) (entry-back s h (omega arith)) (contents-back n (drop 8 s) (bytes-drop 8 s h) (omega (arith, length-drop 8 s)))
+    ∙ glue 8 (8 * n) (8 * suc n) s (omega arith)
+
+bodies-back : (es : List Entry) (s : List ℕ) → AreBytes s → 18 * total es ≤ length s → bodiesBytes (listsIn es s) ≡ take (18 * total es) s
+unfolding bodiesBytes listsIn total
+bodies-back [] s h fits = refl
+bodies-back (e ∷ es) s h fits =
+    ap₂ (λ (x y : List ℕ). x ++ y) (rules-back (e .count) s h (omega arith))
+    (bodies-back es (drop (18 * e .count) s) (bytes-drop (18 * e .count) s h) (omega (arith, length-drop (18 * e .count) s)))
+    ∙ glue (18 * e .count) (18 * total es) (18 * (e .count + total es)) s (omega arith)
+
+pub length-lists : (es : List Entry) (s : List ℕ) → length (listsIn es s) ≡ length es
+unfolding listsIn
+length-lists [] s = refl
+length-lists (e ∷ es) s = ap suc (length-lists es (drop (18 * e .count) s))
+
+-- the entries that fine contents have are those that the writer makes
+pub entries-back : (size next least l : ℕ) (es : List Entry) (s : List ℕ) → entriesCheck size next least l es ≡ passed → entriesFor next (listsIn es s) ≡ es
+unfolding entriesFor listsIn entriesCheck
+entries-back size next least l [] s f = refl
+entries-back size next least l (e ∷ es) s f =
+    let o : e .offset ≡ next = entry-facts size next least l e (bare-first (entryCheck size next least l e) _ (bare-entry size next least l e) [] f) .starts in
+    let n : length (rulesIn (e .count) s) ≡ e .count = length-rulesIn (e .count) s in
+    (λ j. entryWith (sym o j) (n j) (e .id) ∷ entriesFor (next + 18 * n j) (listsIn es (drop (18 * e .count) s)))
+    ∙ ap (λ (r : List Entry). e ∷ r) (entries-back size (next + 18 * e .count) (e .id + 1) (l + 1) es (drop (18 * e .count) s) (then-second (entryCheck size next least l e) _ [] f))
+
+head-back : (b : List ℕ) → 4 ≤ length b → b ≡ getD b 0 0 ∷ getD b 1 0 ∷ getD b 2 0 ∷ getD b 3 0 ∷ drop 4 b
+head-back [] h = absurd (not-suc-le-zero h)
+head-back (x ∷ []) h = absurd (omega arith)
+head-back (x ∷ y ∷ []) h = absurd (omega arith)
+head-back (x ∷ y ∷ z ∷ []) h = absurd (omega arith)
+head-back (x ∷ y ∷ z ∷ u ∷ b) h = refl
+
+bytes-are : (w n : ℕ) (ls : List Named) (es : List Entry) → length ls ≡ n → entriesFor (4 + 8 * n) ls ≡ es
+    → bytesOf w ls ≡ 1 ∷ w ∷ n ∷ 0 ∷ (contentsBytes es ++ bodiesBytes ls)
+unfolding bytesOf
+bytes-are w n ls es p q =
+    (λ j. 1 ∷ w ∷ p j ∷ 0 ∷ (contentsBytes (entriesFor (4 + 8 * p j) ls) ++ bodiesBytes ls))
+    ∙ ap (λ (r : List Entry). 1 ∷ w ∷ n ∷ 0 ∷ (contentsBytes r ++ bodiesBytes ls)) q
+
+rest-back : (b : List ℕ) → AreBytes b → 4 + 8 * countIn b ≤ length b → 4 + 8 * countIn b + 18 * total (entriesOf b) ≡ length b
+    → contentsBytes (entriesOf b) ++ bodiesBytes (listsOf b) ≡ drop 4 b
+unfolding entriesOf listsOf
+rest-back b h fits sum =
+    let n : ℕ = countIn b in
+    let es : List Entry = entriesIn n (drop 4 b) in
+    let left : length (drop (4 + 8 * n) b) ≡ 18 * total es = omega (arith, length-drop (4 + 8 * n) b, sum) in
+    ap₂ (λ (x y : List ℕ). x ++ y)
+    (contents-back n (drop 4 b) (bytes-drop 4 b h) (omega (arith, length-drop 4 b)))
+    (bodies-back es (drop (4 + 8 * n) b) (bytes-drop (4 + 8 * n) b h) (omega arith)
+    ∙ take-all (18 * total es) (drop (4 + 8 * n) b) (omega arith)
+    ∙ sym (drop-drop (8 * n) 4 b))
+    ∙ take-append-drop (8 * n) (drop 4 b)
+
+pub length-listsOf : (b : List ℕ) → length (listsOf b) ≡ countIn b
+unfolding listsOf entriesOf
+length-listsOf b = length-lists (entriesIn (countIn b) (drop 4 b)) (drop (4 + 8 * countIn b) b) ∙ length-entries (countIn b) (drop 4 b)
+
+pub entries-again : (b : List ℕ) → contentsCheck b ≡ passed → entriesFor (4 + 8 * countIn b) (listsOf b) ≡ entriesOf b
+unfolding contentsCheck listsOf
+entries-again b f = entries-back (length b) (4 + 8 * countIn b) 0 1 (entriesOf b) (drop (4 + 8 * countIn b) b) f
+
+-- the bytes of an image that passed are those of its width and its lists
+pub read-write : (b : List ℕ) → AreBytes b → imageCheck b ≡ passed → bytesOf (widthIn b) (listsOf b) ≡ b
+unfolding imageCheck
+read-write b h f =
+    let c : contentsCheck b ≡ passed = bare-first (contentsCheck b) _ (bare-contents b) [] (then-second (headCheck b) _ [] f) in
+    let k = head-facts b (bare-first (headCheck b) _ (bare-head b) [] f) in
+    bytes-are (widthIn b) (countIn b) (listsOf b) (entriesOf b) (length-listsOf b) (entries-again b c)
+    ∙ (λ j. sym (k .zeroth) j ∷ widthIn b ∷ countIn b ∷ sym (k .third) j ∷ rest-back b h (k .contents) (contents-total b c) j)
+    ∙ sym (head-back b (k .least))

@@ -1,0 +1,196 @@
+-- What holds of images: written and read back, read and written again, bodies and offsets.
+use mathlib.Core.Path.{_≡_, refl, sym, ap, ap₂, _∙_}
+use mathlib.Core.List.{List, [], _∷_, _++_, map}
+use mathlib.Core.Bool.{Bool, true, false}
+use Prim.Native.Nat.{ℕ, zero, suc, _+_, _-_, _*_, _≤_, _<_}
+use native.Mathlib.Nat.{zero-add, suc-add}
+use native.Mathlib.Omega.{arith}
+use lib.Dec.{eqb}
+use lib.ListN.{length, getD, take, drop, length-drop}
+use lib.Seq.{drop-drop, drop-cons}
+use Rattle.rules.specs.declared.Rule.{Rule}
+use Rattle.rules.specs.Rules.{rule}
+use Rattle.rules.specs.Lists.{All}
+use Rattle.rules.specs.Replies.{Reply, Gives, passed, need, _then_}
+use Rattle.rules.proofs.ReplyLaws.{then-next, then-second}
+use Rattle.image.specs.declared.Outcome.{Outcome}
+use Rattle.image.specs.declared.places.Place.{Place}
+use Rattle.image.specs.Bytes.{num, part, le}
+use Rattle.image.specs.Images.{Named, named, Entry, entryWith, ruleIn, rulesIn, listsIn, total, countIn, widthIn, entriesOf, listsOf, rulesBytes, bytesOf}
+use Rattle.image.specs.Checks.{entryCheck, entriesCheck, headCheck, contentsCheck, imageCheck}
+use Rattle.image.specs.Places.{placeIn, placeAt, pickPlace, placeOf, listWith}
+use Rattle.image.specs.Replies.{afterwards}
+use Rattle.image.specs.Calls.{idCheck, bodyOf, careOf, valueOf, decisionOf}
+use Rattle.image.specs.Writing.{cut, given, imageLength, writeCheck, writeReply, imaged, Written}
+use Rattle.image.proofs.BareLaws.{bare-first, bare-image, bare-head, bare-contents, bare-entry}
+use Rattle.image.proofs.HeadLaws.{entry-facts}
+use Rattle.image.proofs.StepLaws.{entries-total}
+use Rattle.image.proofs.SeekLaws.{image-facts, place-fits}
+use Rattle.image.proofs.WriteLaws.{write-facts}
+use Rattle.image.proofs.BackLaws.{AreBytes, bytes-drop, rules-back, read-write}
+use Rattle.image.proofs.AgainLaws.{Carried, allRules, carried-passes, carried-back}
+use Rattle.image.proofs.CarryLaws.{facts-carried, image-carried, ids-fit, namesOf, countsOf, joined, rules-columns, cut-joined, length-names, length-joined, length-column, carried-writes}
+
+-- ids as they are lent: two bytes each
+abbrev pub AreIds : List ℕ → Type 0
+AreIds ids = All (λ (i : ℕ). i < 65536) ids
+
+-- ---- written, and read back
+
+module _ (w : ℕ) (ids ns cs vs ds : List ℕ) (room : ℕ) (a : AreIds ids) (f : writeCheck w ids ns cs vs ds room ≡ passed) where
+  carried : Carried w (given ids ns cs vs ds)
+  carried = facts-carried w ids ns cs vs ds room a (write-facts w ids ns cs vs ds room [] f)
+
+  -- Every image that the writer makes is accepted.
+  pub written-accepted : imageCheck (bytesOf w (given ids ns cs vs ds)) ≡ passed
+  written-accepted = carried-passes w (given ids ns cs vs ds) carried
+
+  -- What was written has the width that was given.
+  pub written-width : widthIn (bytesOf w (given ids ns cs vs ds)) ≡ w
+  unfolding bytesOf
+  written-width = refl
+
+  -- What was written has the lists that were given, with their ids, in order.
+  pub written-lists : listsOf (bytesOf w (given ids ns cs vs ds)) ≡ given ids ns cs vs ds
+  written-lists = carried-back w (given ids ns cs vs ds) carried
+
+-- ---- a list by its id
+
+abbrev pickRules : Bool → List Rule → List Rule → List Rule
+pickRules true a b = a
+pickRules false a b = b
+
+-- The rules of the list with that id; none where there is none.
+unfoldable pub rulesNamed : (id : ℕ) → List Named → List Rule
+rulesNamed id [] = []
+rulesNamed id (l ∷ ls) = pickRules (eqb (l .id) id) (l .rules) (rulesNamed id ls)
+
+at-place : List ℕ → Place → List Rule
+at-place b p = rulesIn (p .count) (drop (p .from) b)
+
+picked : (t : Bool) (b : List ℕ) (x y : Place) → at-place b (pickPlace t x y) ≡ pickRules t (at-place b x) (at-place b y)
+picked true b x y = refl
+picked false b x y = refl
+
+named-in : (id next : ℕ) (es : List Entry) (b : List ℕ) → at-place b (placeIn id next es) ≡ rulesNamed id (listsIn es (drop next b))
+unfolding placeIn rulesNamed listsIn rulesIn at-place
+named-in id next [] b = refl
+named-in id next (e ∷ es) b =
+    picked (eqb (e .id) id) b (placeAt true next (e .count)) (placeIn id (next + 18 * e .count) es)
+    ∙ ap (pickRules (eqb (e .id) id) (rulesIn (e .count) (drop next b)))
+    (named-in id (next + 18 * e .count) es b ∙ ap (λ (s : List ℕ). rulesNamed id (listsIn es s)) (sym (drop-drop (18 * e .count) next b)))
+
+-- The rules that are read out for an id are those of the image's list with that id.
+pub list-named : (b : List ℕ) (id : ℕ) → listWith b id ≡ rulesNamed id (listsOf b)
+unfolding listWith placeOf listsOf at-place
+list-named b id = named-in id (4 + 8 * countIn b) (entriesOf b) b
+
+-- Reading a list of a written image out gives the rules that were given for its id.
+pub written-read : (w : ℕ) (ids ns cs vs ds : List ℕ) (room id : ℕ) → AreIds ids → writeCheck w ids ns cs vs ds room ≡ passed
+    → listWith (bytesOf w (given ids ns cs vs ds)) id ≡ rulesNamed id (given ids ns cs vs ds)
+written-read w ids ns cs vs ds room id a f =
+    list-named (bytesOf w (given ids ns cs vs ds)) id ∙ ap (rulesNamed id) (written-lists w ids ns cs vs ds room a f)
+
+-- ---- read, and written again
+
+-- Writing the width and the lists that were read from an accepted image gives its bytes.
+pub read-written : (b : List ℕ) → AreBytes b → imageCheck b ≡ passed → bytesOf (widthIn b) (listsOf b) ≡ b
+read-written b h f = read-write b h f
+
+-- The call that does so gives the image's length, and the lent bytes start with the image.
+pub rewritten : (b out : List ℕ) → AreBytes b → imageCheck b ≡ passed → length b ≤ length out
+    → Written (widthIn b) (namesOf (listsOf b)) (countsOf (listsOf b)) (map careOf (joined (listsOf b))) (map valueOf (joined (listsOf b))) (map decisionOf (joined (listsOf b))) out
+    (Outcome.Number (length b)) (imaged b out)
+unfolding writeReply
+rewritten b out h f room =
+    let ls : List Named = listsOf b in
+    let ids : List ℕ = namesOf ls in
+    let ns : List ℕ = countsOf ls in
+    let cs : List ℕ = map careOf (joined ls) in
+    let vs : List ℕ = map valueOf (joined ls) in
+    let ds : List ℕ = map decisionOf (joined ls) in
+    let k = image-carried b (ids-fit b h) f in
+    let size : imageLength (length ids) (length cs) ≡ length b =
+    ap₂ imageLength (length-names ls) (length-column careOf (joined ls) ∙ length-joined ls) ∙ k .1 in
+    let c : writeCheck (widthIn b) ids ns cs vs ds (length out) ≡ passed = carried-writes (widthIn b) ls (length out) (k .0) (omega (arith, k .1)) in
+    let e : writeReply (widthIn b) ids ns cs vs ds out ≡ Gives (length b ∷ []) = then-next _ _ c ∙ ap (λ (n : ℕ). Gives (n ∷ [])) size in
+    let same : given ids ns cs vs ds ≡ ls = ap (cut ids ns) (rules-columns (joined ls)) ∙ cut-joined ls in
+    record {
+      answer = sym e;
+      bytes = sym (ap (λ (u : Reply). afterwards u (imaged (bytesOf (widthIn b) (given ids ns cs vs ds)) out) out) e
+          ∙ ap (λ (l : List Named). imaged (bytesOf (widthIn b) l) out) same ∙ ap (λ (x : List ℕ). imaged x out) (read-write b h f));
+    }
+
+-- ---- the body and the reading out
+
+inside-take : (k p m : ℕ) (s : List ℕ) → p + k ≤ m → part k p (take m s) ≡ part k p s
+inside-take zero p m s h = refl
+inside-take (suc k) zero zero s h = absurd (omega arith)
+inside-take (suc k) zero (suc m) [] h = refl
+inside-take (suc k) zero (suc m) (x ∷ s) h = ap (λ (l : List ℕ). x ∷ l) (inside-take k 0 m s (omega arith))
+inside-take (suc k) (suc p) zero s h = absurd (omega arith)
+inside-take (suc k) (suc p) (suc m) [] h = refl
+inside-take (suc k) (suc p) (suc m) (x ∷ s) h = inside-take (suc k) p m s (omega arith)
+
+-- what is left of nothing
+take-none : (n : ℕ) → take {A = ℕ} n [] ≡ []
+take-none zero = refl
+take-none (suc n) = refl
+
+drop-take : (k m : ℕ) (s : List ℕ) → drop k (take (k + m) s) ≡ take m (drop k s)
+drop-take zero m s = ap (λ (n : ℕ). take n s) (zero-add m)
+drop-take (suc k) m [] = ap (drop (suc k)) (take-none (suc k + m)) ∙ sym (take-none m)
+drop-take (suc k) m (x ∷ s) = ap (λ (n : ℕ). drop (suc k) (take n (x ∷ s))) (suc-add k m) ∙ drop-take k m s
+
+prefix : (n : ℕ) (s : List ℕ) → rulesIn n (take (18 * n) s) ≡ rulesIn n s
+unfolding rulesIn
+prefix zero s = refl
+prefix (suc n) s =
+    (λ j. rule (le (inside-take 8 0 (18 * suc n) s (omega arith) j)) (le (inside-take 8 8 (18 * suc n) s (omega arith) j)) (le (inside-take 2 16 (18 * suc n) s (omega arith) j))
+    ∷ rulesIn n (shorter j))
+    ∙ ap (λ (rs : List Rule). ruleIn s ∷ rs) (prefix n (drop 18 s))
+  where
+    shorter : drop 18 (take (18 * suc n) s) ≡ take (18 * n) (drop 18 s)
+    shorter = ap (λ (k : ℕ). drop 18 (take k s)) (times n) ∙ drop-take 18 (18 * n) s
+      where
+        times : (m : ℕ) → 18 * suc m ≡ 18 + 18 * m
+        times m = omega arith
+
+-- The body that is handed back holds the rules that are read out.
+pub body-rules : (b : List ℕ) (id : ℕ) → idCheck b id ≡ passed → rulesIn (placeOf b id .count) (bodyOf b id) ≡ listWith b id
+unfolding bodyOf listWith
+body-rules b id f =
+    ap (λ (u : Reply). rulesIn (placeOf b id .count) (afterwards u (part (18 * placeOf b id .count) (placeOf b id .from) b) [])) f
+    ∙ prefix (placeOf b id .count) (drop (placeOf b id .from) b)
+
+-- The body that is handed back is the bytes of the rules that are read out.
+pub body-bytes : (b : List ℕ) (id : ℕ) → AreBytes b → idCheck b id ≡ passed → bodyOf b id ≡ rulesBytes (listWith b id)
+unfolding bodyOf listWith idCheck
+body-bytes b id h f =
+    let facts = image-facts b [] (bare-first (imageCheck b) _ (bare-image b) [] f) in
+    let p = placeOf b id in
+    let fits = place-fits b id (facts .sums) in
+    ap (λ (u : Reply). afterwards u (part (18 * p .count) (p .from) b) []) f
+    ∙ sym (rules-back (p .count) (drop (p .from) b) (bytes-drop (p .from) b h) (within fits))
+  where
+    within : placeOf b id .from + 18 * placeOf b id .count ≤ length b → 18 * placeOf b id .count ≤ length (drop (placeOf b id .from) b)
+    within k = omega (arith, length-drop (placeOf b id .from) b)
+
+-- ---- offsets
+
+offset-in : (size next least l : ℕ) (es : List Entry) (k : ℕ) (d : Entry) → entriesCheck size next least l es ≡ passed → k < length es
+    → getD es k d .offset ≡ next + 18 * total (take k es)
+unfolding entriesCheck total
+offset-in size next least l [] k d f h = absurd (omega arith)
+offset-in size next least l (e ∷ es) zero d f h =
+    entry-facts size next least l e (bare-first (entryCheck size next least l e) _ (bare-entry size next least l e) [] f) .starts ∙ omega arith
+offset-in size next least l (e ∷ es) (suc k) d f h =
+    offset-in size (next + 18 * e .count) (e .id + 1) (l + 1) es k d (then-second (entryCheck size next least l e) _ [] f) (omega arith)
+    ∙ omega arith
+
+-- In an accepted image an entry's offset is the running position: the contents' end and the bodies before it.
+pub offset-runs : (b : List ℕ) (k : ℕ) (d : Entry) → imageCheck b ≡ passed → k < length (entriesOf b)
+    → getD (entriesOf b) k d .offset ≡ 4 + 8 * countIn b + 18 * total (take k (entriesOf b))
+unfolding imageCheck contentsCheck
+offset-runs b k d f h =
+    offset-in (length b) (4 + 8 * countIn b) 0 1 (entriesOf b) k d (bare-first (contentsCheck b) _ (bare-contents b) [] (then-second (headCheck b) _ [] f)) h

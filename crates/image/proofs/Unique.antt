@@ -1,0 +1,75 @@
+-- Each call's promise leaves no second result: two results that both meet it are equal, and so are the lent slices afterwards.
+use mathlib.Core.Path.{_≡_, refl, sym, ap, ap₂, _∙_}
+use mathlib.Core.List.{List, [], _∷_}
+use Prim.Native.Nat.{ℕ}
+use Rattle.rules.specs.declared.Refusal.{Refusal}
+use Rattle.rules.specs.declared.Verdict.{Verdict}
+use Rattle.rules.specs.Replies.{Reply, Gives, Refuses, verdictReply, refusalReply}
+use Rattle.rules.proofs.ReplyLaws.{gives-refuses, one-refusal, one-verdict}
+use Rattle.image.specs.declared.Outcome.{Outcome}
+use Rattle.image.specs.declared.Listed.{Listed}
+use Rattle.image.specs.Checks.{imageCheck}
+use Rattle.image.specs.Replies.{outcomeReply, listedReply}
+use Rattle.image.specs.Calls.{widthReply, countReply, entryReply, idCheck, bodyOf, ReadOut}
+use Rattle.image.specs.Writing.{Written}
+
+-- ---- one answer for each reply
+
+one-number : {m n : ℕ} → Gives (m ∷ []) ≡ Gives (n ∷ []) → m ≡ n
+one-number e = cc
+
+pub one-outcome : (x y : Outcome) → outcomeReply x ≡ outcomeReply y → x ≡ y
+one-outcome (Outcome.Number m) (Outcome.Number n) e = ap Outcome.Number (one-number e)
+one-outcome (Outcome.Number m) (Outcome.Refused b) e = absurd (gives-refuses e)
+one-outcome (Outcome.Refused a) (Outcome.Number n) e = absurd (gives-refuses (sym e))
+one-outcome (Outcome.Refused a) (Outcome.Refused b) e = ap Outcome.Refused (one-refusal a b e)
+
+two-first : {i j m n : ℕ} → Gives (i ∷ m ∷ []) ≡ Gives (j ∷ n ∷ []) → i ≡ j
+two-first e = cc
+
+two-second : {i j m n : ℕ} → Gives (i ∷ m ∷ []) ≡ Gives (j ∷ n ∷ []) → m ≡ n
+two-second e = cc
+
+pub one-listed : (x y : Listed) → listedReply x ≡ listedReply y → x ≡ y
+one-listed (Listed.List i m) (Listed.List j n) e = ap₂ Listed.List (two-first e) (two-second e)
+one-listed (Listed.List i m) (Listed.Refused b) e = absurd (gives-refuses e)
+one-listed (Listed.Refused a) (Listed.List j n) e = absurd (gives-refuses (sym e))
+one-listed (Listed.Refused a) (Listed.Refused b) e = ap Listed.Refused (one-refusal a b e)
+
+-- ---- the calls
+
+module _ (b : List ℕ) where
+  -- check
+  pub one-check : (x y : Verdict) → verdictReply x ≡ imageCheck b → verdictReply y ≡ imageCheck b → x ≡ y
+  one-check x y p q = one-verdict x y (p ∙ sym q)
+
+  -- width
+  pub one-width : (x y : Outcome) → outcomeReply x ≡ widthReply b → outcomeReply y ≡ widthReply b → x ≡ y
+  one-width x y p q = one-outcome x y (p ∙ sym q)
+
+  -- count
+  pub one-count : (x y : Outcome) → outcomeReply x ≡ countReply b → outcomeReply y ≡ countReply b → x ≡ y
+  one-count x y p q = one-outcome x y (p ∙ sym q)
+
+  -- entry
+  pub one-entry : (k : ℕ) (x y : Listed) → listedReply x ≡ entryReply b k → listedReply y ≡ entryReply b k → x ≡ y
+  one-entry k x y p q = one-listed x y (p ∙ sym q)
+
+  -- body_refusal
+  pub one-body-refusal : (id : ℕ) (x y : Verdict) → verdictReply x ≡ idCheck b id → verdictReply y ≡ idCheck b id → x ≡ y
+  one-body-refusal id x y p q = one-verdict x y (p ∙ sym q)
+
+  -- body
+  pub one-body : (id : ℕ) (x y : List ℕ) → x ≡ bodyOf b id → y ≡ bodyOf b id → x ≡ y
+  one-body id x y p q = p ∙ sym q
+
+  -- read
+  pub one-read : (id : ℕ) (cs vs ds : List ℕ) (x y : Outcome) (cs₁ vs₁ ds₁ cs₂ vs₂ ds₂ : List ℕ)
+      → ReadOut b id cs vs ds x cs₁ vs₁ ds₁ → ReadOut b id cs vs ds y cs₂ vs₂ ds₂ → (x ≡ y) × (cs₁ ≡ cs₂) × (vs₁ ≡ vs₂) × (ds₁ ≡ ds₂)
+  one-read id cs vs ds x y cs₁ vs₁ ds₁ cs₂ vs₂ ds₂ p q =
+      (one-outcome x y (p .answer ∙ sym (q .answer)), p .cares ∙ sym (q .cares), p .values ∙ sym (q .values), p .decisions ∙ sym (q .decisions))
+
+-- write
+pub one-write : (w : ℕ) (ids ns cs vs ds out : List ℕ) (x y : Outcome) (out₁ out₂ : List ℕ)
+    → Written w ids ns cs vs ds out x out₁ → Written w ids ns cs vs ds out y out₂ → (x ≡ y) × (out₁ ≡ out₂)
+one-write w ids ns cs vs ds out x y out₁ out₂ p q = (one-outcome x y (p .answer ∙ sym (q .answer)), p .bytes ∙ sym (q .bytes))
