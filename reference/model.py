@@ -382,7 +382,7 @@ class Tree:
             return (a, b, a != b)
         low = self.part(narrowed(old, "0"), narrowed(new, "0"))
         high = self.part(narrowed(old, "1"), narrowed(new, "1"))
-        if low == high and isinstance(low[0], int):
+        if isinstance(low[0], int) and low == high:
             return low
         return (low, high, low[2] or high[2])
 
