@@ -163,6 +163,11 @@ class Maker:
             [self.random.choice(few) for _ in texts],
         )
 
+    def prefix_list(self, width, count):
+        """Many rules that are prefixes, with one decision of few."""
+        texts = [self.prefix(width) for _ in range(count)]
+        return ([model.care_word(t) for t in texts], [model.value_word(t) for t in texts], [self.pick(1, 2, 3) for _ in texts])
+
     def rule(self, width):
         care, value, decision = self.list_of(width, 1)
         return care[0], value[0], decision[0]
@@ -422,7 +427,7 @@ def runs(make):
 
 
 def weave(make):
-    _, width, list, bytes = listed(make, most=40, percent=10)
+    _, width, list, bytes = listed(make, most=80 if make.chance(2) else 30, percent=10)
     lengths = make.lengths(3, len(list[0]))
     results = [marks(length) for length in lengths]
     text = said(model.weave, width, *list, *results)
@@ -452,9 +457,9 @@ def like(make, width, list):
 
 def compare(make):
     good = make.width()
-    most = 12 if good <= model.BY_HEADERS else 6
-    old = make.list_of(good, make.some(most))
-    new = like(make, good, old) if make.chance(60) else make.list_of(good, make.some(most))
+    list_of, most = (make.prefix_list, 60) if make.chance(15) else (make.list_of, 12)
+    old = list_of(good, make.some(most))
+    new = like(make, good, old) if make.chance(60) else list_of(good, make.some(most))
     start = make.pick(0, 0, make.any_header(good, old), make.any_header(good, new))
     if make.chance(8):
         old = make.bad_list(good, old)

@@ -1,8 +1,10 @@
-"""The worked examples of the rules, held against the model. Prints how many hold; `python3 examples.py [DIR]` also holds
-the model's bench program to each folder of DIR that has old.img, new.img and stdout."""
+"""The worked examples of the rules, held against the model, and the model's shorter ways against walks over every header.
+Prints how many hold; `python3 examples.py [DIR]` also holds the model's bench program to each folder of DIR that has
+old.img, new.img and stdout."""
 import os
 import sys
 
+import cases
 import model
 from model import Refused
 
@@ -81,6 +83,39 @@ def examples():
     yield model.bench(image, other) == "width 3\n2 3 1 none\n5 5 none 1\n7 7 none 1\nruns 3\n"
 
 
+def headers(width):
+    return [model.bits(width, h) for h in range(2**width)]
+
+
+def answers(width, rules):
+    return [model.answer(rules, header) for header in headers(width)]
+
+
+def walks():
+    """Random lists of small widths: what the model says against what every header says."""
+    make = cases.Maker(1)
+    for _ in range(300):
+        width = make.random.randint(1, 6)
+        lists = [model.rules_of(width, *make.list_of(width, make.some(8))) for _ in range(2)]
+        old, new = lists
+        by_headers = list(joined(model.stretches_by_headers(width, old, new)))
+        yield list(joined(model.stretches_by_places(width, old, new, 0))) == by_headers
+        yield answers(width, woven(width, old)[0]) == answers(width, old) and sum(woven(width, old)[1]) == len(old)
+        for a, _ in old:
+            for b, _ in new:
+                both = [(model.matches(a, h), model.matches(b, h)) for h in headers(width)]
+                yield model.covers_text(a, b) == all(of_a for of_a, of_b in both if of_b)
+                yield (model.distance_text(a, b) == 0) == any(of_a and of_b for of_a, of_b in both)
+
+
+def joined(stretches):
+    """The headers on which the answers differ, one by one."""
+    for first, last, a, b in stretches:
+        if a != b:
+            for header in range(first, last + 1):
+                yield header, a, b
+
+
 def image_of(width, lists):
     flat = [rule for rules in lists for rule in rules]
     return model.image_bytes(width, [len(rules) for rules in lists], range(1, len(lists) + 1), zip(*words(flat)))
@@ -104,8 +139,7 @@ def folders(top):
 
 
 if __name__ == "__main__":
-    sys.setrecursionlimit(10000)
-    held = list(examples())
+    held = list(examples()) + list(walks())
     if len(sys.argv) > 1:
         held += folders(sys.argv[1])
     print("%d hold, %d do not" % (held.count(True), held.count(False)))

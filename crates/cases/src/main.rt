@@ -4,10 +4,14 @@
 // The cases stand in standard input, one after the other. A case is the number of its bytes, in four bytes, and then so many
 // bytes, of which the first is its kind. A line is the case's number, counted from 1, its kind, and the answers: numbers, words,
 // and what stands in each lent result slice afterwards.
+mod compare_calls;
+mod image_calls;
 mod numbers;
 mod rules_calls;
 mod show;
 mod slices;
+mod swaps_calls;
+mod weaving_calls;
 
 // The cases over a list. Each has the width, the list, and then what the call asks besides.
 fn on_list(kind: u8, s: &[u8]) {
@@ -33,11 +37,25 @@ fn on_list(kind: u8, s: &[u8]) {
 
 fn with_list(kind: u8, s: &[u8], at: usize, care: &[u64], value: &[u64], decision: &[u16]) {
     let width = numbers::single(s, 1);
-    rules_calls::on_list(kind, s, at, width, care, value, decision);
+    if kind < 16 {
+        rules_calls::on_list(kind, s, at, width, care, value, decision);
+    } else if kind < 32 {
+        swaps_calls::on_list(kind, s, at, width, care, value, decision);
+    } else if kind < 48 {
+        weaving_calls::on_list(kind, s, at, width, care, value, decision);
+    } else if kind < 64 {
+        compare_calls::on_list(kind, s, at, width, care, value, decision);
+    }
 }
 
 fn alone(kind: u8, s: &[u8]) {
-    rules_calls::alone(kind, s);
+    if kind < 16 {
+        rules_calls::alone(kind, s);
+    } else if kind < 32 {
+        swaps_calls::alone(kind, s);
+    } else if kind < 80 {
+        image_calls::alone(kind, s);
+    }
 }
 
 // Kinds with the bit of weight 8 have no list in the common place.
