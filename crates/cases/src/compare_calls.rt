@@ -1,12 +1,12 @@
 // The cases of the comparison of two lists.
-use compare::Compared;
-use compare::Ending;
 use crate::numbers::count;
 use crate::numbers::list_at;
 use crate::numbers::skip;
 use crate::numbers::word;
 use crate::show;
 use crate::slices;
+use compare::Compared;
+use compare::Ending;
 use rules::Wire;
 
 fn show_compared(c: Compared) {
@@ -23,7 +23,15 @@ fn show_compared(c: Compared) {
 }
 
 // The cases over a list, which is the old one; the new one and what follows it stand at `at`.
-pub fn on_list(kind: u8, s: &[u8], at: usize, width: u32, care: &[u64], value: &[u64], decision: &[u16]) {
+pub fn on_list(
+    kind: u8,
+    s: &[u8],
+    at: usize,
+    width: u32,
+    care: &[u64],
+    value: &[u64],
+    decision: &[u16],
+) {
     if kind == 48 {
         let p = list_at(s, at);
         let mut care_space = [0u64; 4112];
@@ -34,7 +42,11 @@ pub fn on_list(kind: u8, s: &[u8], at: usize, width: u32, care: &[u64], value: &
         let all_decision: &mut [u16] = &mut decision_space;
         slices::fill_words(s, p.care_at, slices::words_mut(all_care, p.cares));
         slices::fill_words(s, p.value_at, slices::words_mut(all_value, p.values));
-        slices::fill_halves(s, p.decision_at, slices::halves_mut(all_decision, p.decisions));
+        slices::fill_halves(
+            s,
+            p.decision_at,
+            slices::halves_mut(all_decision, p.decisions),
+        );
         both(
             s,
             p.end,

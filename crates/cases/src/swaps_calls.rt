@@ -68,7 +68,15 @@ fn show_swap(a: SwapAnswer) {
 }
 
 // The cases over a list; what follows the list in the case stands at `at`.
-pub fn on_list(kind: u8, s: &[u8], at: usize, width: u32, care: &[u64], value: &[u64], decision: &[u16]) {
+pub fn on_list(
+    kind: u8,
+    s: &[u8],
+    at: usize,
+    width: u32,
+    care: &[u64],
+    value: &[u64],
+    decision: &[u16],
+) {
     if kind == 16 {
         show_swap(rules::prefix_swap(width, care, value, decision));
     } else if kind == 17 {
@@ -79,7 +87,13 @@ pub fn on_list(kind: u8, s: &[u8], at: usize, width: u32, care: &[u64], value: &
 
 fn look_up(moved: ToSwapped, width: u32, care: &[u64], value: &[u64], decision: &[u16]) {
     match moved {
-        ToSwapped::Header(x) => show::looked(rules::lookup_swapped(width, care, value, decision, x)),
+        ToSwapped::Header(x) => show::looked(rules::lookup_swapped(
+            width,
+            care,
+            value,
+            decision,
+            x,
+        )),
         ToSwapped::Refused(x) => show::refusal(x),
     }
 }

@@ -7,7 +7,15 @@ use weaving::Counted;
 use weaving::Woven;
 
 // The cases over a list; what follows the list in the case stands at `at`.
-pub fn on_list(kind: u8, s: &[u8], at: usize, width: u32, care: &[u64], value: &[u64], decision: &[u16]) {
+pub fn on_list(
+    kind: u8,
+    s: &[u8],
+    at: usize,
+    width: u32,
+    care: &[u64],
+    value: &[u64],
+    decision: &[u16],
+) {
     if kind == 32 {
         cut(count(s, at), width, care, value, decision);
     } else if kind == 33 {
@@ -55,7 +63,15 @@ fn weave(s: &[u8], at: usize, width: u32, care: &[u64], value: &[u64], decision:
     slices::mark_words(out_care);
     slices::mark_words(out_value);
     slices::mark_halves(out_decision);
-    show_woven(weaving::weave(width, care, value, decision, out_care, out_value, out_decision));
+    show_woven(weaving::weave(
+        width,
+        care,
+        value,
+        decision,
+        out_care,
+        out_value,
+        out_decision,
+    ));
     show::words(out_care);
     show::words(out_value);
     show::halves(out_decision);
