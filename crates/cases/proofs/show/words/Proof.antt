@@ -1,0 +1,80 @@
+use Prim.Native.Nat.{_≤_}
+use lib.ListN.{length}
+use borrow.Author.Needs.{needs}
+use Rattle.cases.proofs.show.words.Statement.{statement}
+use Rattle.cases.proofs.show.words.Tie as tie
+use Rattle.cases.proofs.show.words.Reads as reads
+use Rattle.cases.proofs.show.words.Lts as lts
+use Rattle.cases.proofs.show.close.Reads as close-reads
+use Rattle.cases.proofs.show.is_short.Reads as is-short-reads
+use Rattle.cases.proofs.show.open.Reads as open-reads
+use Rattle.cases.proofs.show.shown.Reads as shown-reads
+use Rattle.cases.proofs.slices.word_at.Reads as word-at-reads
+
+abbrev Inv-loop : tie.InvT-loop
+Inv-loop s sum₀ left₀ sum left = left ≤ length s
+
+abbrev μ-loop : tie.MeasureT-loop
+μ-loop s sum₀ left₀ sum left = left
+
+-- src/show.rt:75:5
+open-requires : tie.Need-open-requires Inv-loop μ-loop
+open-requires c κs = search needs
+
+-- src/show.rt:78:5
+loop-holds : tie.Need-loop-holds Inv-loop μ-loop
+loop-holds c = search needs
+
+-- src/show.rt:79:21
+is-short-requires : tie.Need-is-short-requires Inv-loop μ-loop
+is-short-requires c κs = search needs
+
+-- src/show.rt:79:56
+sub-word-at : tie.Need-sub-word-at Inv-loop μ-loop
+sub-word-at c = search needs
+
+-- src/show.rt:79:45
+word-at-requires : tie.Need-word-at-requires Inv-loop μ-loop
+word-at-requires c κs = search needs
+
+-- src/show.rt:79:9
+shown-requires : tie.Need-shown-requires Inv-loop μ-loop
+shown-requires c κs = search needs
+
+-- src/show.rt:80:9
+sub-left : tie.Need-sub-left Inv-loop μ-loop
+sub-left c = search needs
+
+-- src/show.rt:78:5
+loop-less : tie.Need-loop-less Inv-loop μ-loop
+loop-less c = search needs
+
+-- src/show.rt:78:5
+loop-again : tie.Need-loop-again Inv-loop μ-loop
+loop-again c = search needs
+
+-- src/show.rt:82:5
+close-requires : tie.Need-close-requires Inv-loop μ-loop
+close-requires c κs = search needs
+
+-- src/show.rt:74:1
+returns : tie.Need-returns Inv-loop μ-loop
+returns c = search needs
+
+pub words-spec : {M : Type 1} → statement M
+words-spec =
+    tie.close
+    (tie.spec
+    Inv-loop
+    μ-loop
+    open-requires
+    loop-holds
+    is-short-requires
+    sub-word-at
+    word-at-requires
+    shown-requires
+    sub-left
+    loop-less
+    loop-again
+    close-requires
+    returns)

@@ -1,0 +1,62 @@
+use mathlib.Core.Path.{_≡_, _∙_}
+use lib.ListN.{length}
+use borrow.Author.Needs.{needs}
+use Rattle.cases.proofs.slices.mark_halves.Statement.{statement}
+use Rattle.cases.proofs.slices.mark_halves.Tie as tie
+use Rattle.cases.proofs.slices.mark_halves.Reads as reads
+use Rattle.cases.proofs.slices.mark_halves.Lts as lts
+use Rattle.cases.proofs.slices.mark.Reads as mark-reads
+use Rattle.cases.proofs.slices.put_half.Reads as put-half-reads
+
+abbrev Inv-loop : tie.InvT-loop
+Inv-loop out₀ left₀ out left = length out ≡ length out₀
+
+abbrev μ-loop : tie.MeasureT-loop
+μ-loop out₀ left₀ out left = left
+
+-- src/slices.rt:100:5
+loop-holds : tie.Need-loop-holds Inv-loop μ-loop
+loop-holds c = search needs
+
+-- src/slices.rt:101:9
+sub-left : tie.Need-sub-left Inv-loop μ-loop
+sub-left c = search needs
+
+-- src/slices.rt:102:29
+mark-requires : tie.Need-mark-requires Inv-loop μ-loop
+mark-requires c κs = search needs
+
+-- src/slices.rt:102:9
+put-half-requires : tie.Need-put-half-requires Inv-loop μ-loop
+put-half-requires c κs = search needs
+
+-- src/slices.rt:100:5
+loop-less : tie.Need-loop-less Inv-loop μ-loop
+loop-less c = search needs
+
+-- src/slices.rt:100:5
+loop-again : tie.Need-loop-again Inv-loop μ-loop
+loop-again c = c .before .before .put-half .kept .0 ∙ c .before .before .before .before .before .before .loop .inv
+
+-- src/slices.rt:98:1
+same-length : tie.Need-same-length Inv-loop μ-loop
+same-length c = c .before .loop .inv
+
+-- src/slices.rt:98:1
+returns : tie.Need-returns Inv-loop μ-loop
+returns c = search needs
+
+pub mark-halves-spec : {M : Type 1} → statement M
+mark-halves-spec =
+    tie.close
+    (tie.spec
+    Inv-loop
+    μ-loop
+    loop-holds
+    sub-left
+    mark-requires
+    put-half-requires
+    loop-less
+    loop-again
+    same-length
+    returns)

@@ -1,0 +1,145 @@
+"""The worked examples of the rules, held against the model, and the model's shorter ways against walks over every header.
+Prints how many hold; `python3 examples.py [DIR]` also holds the model's bench program to each folder of DIR that has
+old.img, new.img and stdout."""
+import os
+import sys
+
+import cases
+import model
+from model import Refused
+
+
+def words(rules):
+    """A list written with patterns, as the three slices."""
+    return [[model.care_word(p) for p, _ in rules], [model.value_word(p) for p, _ in rules], [d for _, d in rules]]
+
+
+def woven(width, rules):
+    out = [[9] * (len(rules) + 1) for _ in range(3)]
+    counts = model.weave(width, *words(rules), *out)
+    kept = counts[0]
+    rest = [x for slice in out for x in slice[kept : len(rules)]]
+    assert not any(rest) and all(slice[-1] == 9 for slice in out)
+    return model.rules_of(width, *[slice[:kept] for slice in out]), counts
+
+
+def cut(width, rules):
+    sizes = [0] * len(rules)
+    return model.runs(width, *words(rules), sizes), sizes
+
+
+def refusal(call, *arguments):
+    try:
+        call(*arguments)
+    except Refused as refused:
+        return refused.number, refused.list, refused.rule
+    return None
+
+
+def compared(width, old, new, start=0, room=10):
+    results = [[0] * room for _ in range(4)]
+    count, more = model.compare(width, words(old), words(new), start, *results)
+    return list(zip(*results))[:count], more
+
+
+def all_seven(*patterns):
+    return [(p, 7) for p in patterns]
+
+
+def examples():
+    none = model.NO_MATCH
+    yield model.distance_text("0001", "1101") == 2 and model.distance_text("0*01", "01*1") == 0
+    yield model.moved([3, 1, 2], "0*1") == "10*"
+    rules = [("000*", 1), ("001*", 1), ("0000", 2), ("0***", 2), ("1***", 1)]
+    yield woven(4, rules) == ([("00**", 1), ("0***", 2), ("1***", 1)], (3, 1, 1))
+    rules = [("0*", 1), ("*0", 2)]
+    yield woven(2, rules) == (rules, (2, 0, 0)) and cut(2, rules) == (2, [1, 1])
+    yield refusal(model.prefix_swap, 2, *words(rules)) == (8, 1, 2)
+    yield woven(2, rules + [("00", 3)]) == (rules, (2, 1, 0)) and cut(2, rules + [("00", 3)])[0] == 2
+    yield woven(2, all_seven("00", "01", "11"))[0] == all_seven("0*", "11")
+    yield woven(2, all_seven("00", "01", "10", "11")) == (all_seven("**"), (1, 0, 3))
+    yield woven(2, [("1*", 1), ("00", 2)])[0] == [("00", 2), ("1*", 1)]
+    yield woven(5, []) == ([], (0, 0, 0)) and model.lookup(5, [], [], [], 3) == none
+    yield model.prefix_swap(4, [], [], []).order() == [1, 2, 3, 4]
+    old, new = [("0**", 1)], [("00*", 1), ("1*1", 1)]
+    runs = [(2, 3, 1, none), (5, 5, none, 1), (7, 7, none, 1)]
+    yield compared(3, old, new) == (runs, None) and compared(3, old, new, room=1) == (runs[:1], 5)
+    yield compared(3, old, new, start=3)[0][0] == (3, 3, 1, none)
+    yield refusal(compared, 3, old, new, 8) == (6, 0, 0)
+    yield compared(2, [("00", 1), ("01", 1)], []) == ([(0, 1, 1, none)], None)
+    yield compared(64, [("*" * 64, 1)], []) == ([(0, 2**64 - 1, 1, none)], None)
+    last = [("*" * 63 + "1", 5)]
+    yield compared(64, last, last) == ([], None)
+    yield refusal(model.invert, model.Swap([1, 1] + [0] * 62, 2)) == (9, 0, 0)
+    yield refusal(model.check_list, 3, [2], [1], [0]) == (4, 1, 1)
+    yield refusal(model.check_list, 0, [], [], []) == refusal(model.check_list, 65, [], [], []) == (1, 0, 0)
+    yield refusal(model.check_list, 8, *[[0] * 1024] * 3) is None and refusal(model.check_list, 8, *[[0] * 1025] * 3) == (3, 1, 0)
+    image = bytes([1, 3, 1, 0, 12, 0, 0, 0, 1, 0, 1, 0, 4] + [0] * 15 + [1, 0])
+    out = [7] * 31
+    yield model.write(3, [1], [1], [4], [0], [1], out) == 30 and bytes(out) == image + b"\7"
+    yield refusal(model.check_image, image) is None
+    yield refusal(model.check_image, image + b"\0") == (10, 0, 0) and refusal(model.check_image, image[:-1]) == (10, 1, 0)
+    other = image_of(3, [[("00*", 1), ("1*1", 1)]])
+    yield model.bench(image, other) == "width 3\n2 3 1 none\n5 5 none 1\n7 7 none 1\nruns 3\n"
+
+
+def headers(width):
+    return [model.bits(width, h) for h in range(2**width)]
+
+
+def answers(width, rules):
+    return [model.answer(rules, header) for header in headers(width)]
+
+
+def walks():
+    """Random lists of small widths: what the model says against what every header says."""
+    make = cases.Maker(1)
+    for _ in range(300):
+        width = make.random.randint(1, 6)
+        lists = [model.rules_of(width, *make.list_of(width, make.some(8))) for _ in range(2)]
+        old, new = lists
+        by_headers = list(joined(model.stretches_by_headers(width, old, new)))
+        yield list(joined(model.stretches_by_places(width, old, new, 0))) == by_headers
+        yield answers(width, woven(width, old)[0]) == answers(width, old) and sum(woven(width, old)[1]) == len(old)
+        for a, _ in old:
+            for b, _ in new:
+                both = [(model.matches(a, h), model.matches(b, h)) for h in headers(width)]
+                yield model.covers_text(a, b) == all(of_a for of_a, of_b in both if of_b)
+                yield (model.distance_text(a, b) == 0) == any(of_a and of_b for of_a, of_b in both)
+
+
+def joined(stretches):
+    """The headers on which the answers differ, one by one."""
+    for first, last, a, b in stretches:
+        if a != b:
+            for header in range(first, last + 1):
+                yield header, a, b
+
+
+def image_of(width, lists):
+    flat = [rule for rules in lists for rule in rules]
+    return model.image_bytes(width, [len(rules) for rules in lists], range(1, len(lists) + 1), zip(*words(flat)))
+
+
+def bytes_of(path):
+    if not os.path.exists(path):
+        return b""
+    with open(path, "rb") as file:
+        return file.read()
+
+
+def folders(top):
+    for name in sorted(os.listdir(top)):
+        folder = os.path.join(top, name)
+        if os.path.isdir(folder):
+            text = model.bench(bytes_of(os.path.join(folder, "old.img")), bytes_of(os.path.join(folder, "new.img")))
+            held = text.encode() == bytes_of(os.path.join(folder, "stdout"))
+            print(name, "holds" if held else "DIFFERS", flush=True)
+            yield held
+
+
+if __name__ == "__main__":
+    held = list(examples()) + list(walks())
+    if len(sys.argv) > 1:
+        held += folders(sys.argv[1])
+    print("%d hold, %d do not" % (held.count(True), held.count(False)))

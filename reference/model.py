@@ -1,0 +1,609 @@
+"""What every call has to answer, in plain Python.
+
+This file is an independent reading of the rules that the library is built to. It shares nothing with the library: no
+words with masks, but patterns written out as text, place 1 first, with a character of "01*" for each place. A reader can
+hold it against the rules line by line. It is slow, and that is no fault here.
+
+Numbers handed in are any numbers that fit the call's types; a slice is a Python list (bytes for an image). A call that
+refuses raises Refused and has then changed no list that it was lent.
+"""
+
+WIDEST = 64  # places of a pattern
+LONGEST = 1024  # rules of a list
+NO_MATCH = 65535  # "no match" in slices of numbers; no rule may decide it
+LARGEST_IMAGE = 65536  # bytes
+MOST_LISTS = 16  # lists of an image
+HEAD, ENTRY, RULE = 4, 8, 18  # bytes of an image's head, of an entry of its contents, and of a rule
+
+
+class Refused(Exception):
+    """A refusal: its number, and its place (list, rule), both 0 where the fault has no place."""
+
+    def __init__(self, number, list=0, rule=0):
+        self.number, self.list, self.rule = number, list, rule
+
+
+# Patterns. ------------------------------------------------------------------------------------------------------------
+
+
+def bits(width, word):
+    """The word as text, place 1 first. Place 1 has the highest weight of the width."""
+    return format(word, "0%db" % width)
+
+
+def pattern(width, care, value):
+    """The pattern as text: the value's digit where the care word has a 1, a star where it has a 0."""
+    return "".join(v if c == "1" else "*" for c, v in zip(bits(width, care), bits(width, value)))
+
+
+def care_word(text):
+    return int("".join("0" if x == "*" else "1" for x in text), 2)
+
+
+def value_word(text):
+    return int("".join("1" if x == "1" else "0" for x in text), 2)
+
+
+def matches(text, header):
+    """A header (as text) matches where it has the pattern's digit at every place that is no star."""
+    return all(x == "*" or x == h for x, h in zip(text, header))
+
+
+def covers_text(a, b):
+    """Every header that matches b matches a: where a cares, b cares and asks for the same digit."""
+    return all(x == "*" or x == y for x, y in zip(a, b))
+
+
+def crosses_text(a, b):
+    """Each has a star at some place where the other cares."""
+    a_star = any(x == "*" and y != "*" for x, y in zip(a, b))
+    b_star = any(y == "*" and x != "*" for x, y in zip(a, b))
+    return a_star and b_star
+
+
+def distance_text(a, b):
+    """The places where both care and ask for different digits."""
+    return sum(1 for x, y in zip(a, b) if x != "*" and y != "*" and x != y)
+
+
+def rules_of(width, care, value, decision):
+    """The list as pairs of a pattern and a decision."""
+    return [(pattern(width, c, v), d) for c, v, d in zip(care, value, decision)]
+
+
+def answer(rules, header):
+    """The decision of the first rule that matches the header (as text), or NO_MATCH."""
+    for text, decision in rules:
+        if matches(text, header):
+            return decision
+    return NO_MATCH
+
+
+# Checks, each with its refusal number. ----------------------------------------------------------------------------------
+
+
+def check_width(width):
+    if not 1 <= width <= WIDEST:
+        raise Refused(1)
+
+
+def check_bare_rule(width, list, number, care, value, decision):
+    """4 before 5. A rule's bits lie within the width, and its value has none under a star."""
+    if care >= 2**width or value >= 2**width or any(v == "1" and c == "0" for c, v in zip(bits(width, care), bits(width, value))):
+        raise Refused(4, list, number)
+    if decision == NO_MATCH:
+        raise Refused(5, list, number)
+
+
+def check_bare_list(width, list, care, value, decision):
+    """2, 3, then the rules from the top."""
+    if not len(care) == len(value) == len(decision):
+        raise Refused(2)
+    if len(care) > LONGEST:
+        raise Refused(3, list, 0)
+    for k in range(len(care)):
+        check_bare_rule(width, list, k + 1, care[k], value[k], decision[k])
+
+
+def check_header(width, header):
+    if header >= 2**width:
+        raise Refused(6)
+
+
+# Calls on a list and on rules. ------------------------------------------------------------------------------------------
+
+
+def check_rule(width, list, number, rule):
+    check_width(width)
+    check_bare_rule(width, list, number, *rule)
+
+
+def check_list(width, care, value, decision, list=1):
+    check_width(width)
+    check_bare_list(width, list, care, value, decision)
+
+
+def lookup(width, care, value, decision, header):
+    """A decision, or NO_MATCH."""
+    check_list(width, care, value, decision)
+    check_header(width, header)
+    return answer(rules_of(width, care, value, decision), bits(width, header))
+
+
+def pair(width, a, b):
+    """The patterns of two lone rules. The second one's faults are named as rule 1 of list 2."""
+    check_width(width)
+    check_bare_rule(width, 1, 1, *a)
+    check_bare_rule(width, 2, 1, *b)
+    return pattern(width, a[0], a[1]), pattern(width, b[0], b[1])
+
+
+def covers(width, a, b):
+    return covers_text(*pair(width, a, b))
+
+
+def crosses(width, a, b):
+    return crosses_text(*pair(width, a, b))
+
+
+def distance(width, a, b):
+    return distance_text(*pair(width, a, b))
+
+
+def rule_at(care, value, decision, k):
+    """The rule at position k (from 0); zeros where one of the slices has no such position."""
+    if k < len(care) and k < len(value) and k < len(decision):
+        return care[k], value[k], decision[k]
+    return 0, 0, 0
+
+
+def put_rule(care, value, decision, k, rule):
+    """The rule is put at position k; nothing happens where one of the slices has no such position."""
+    if k < len(care) and k < len(value) and k < len(decision):
+        care[k], value[k], decision[k] = rule
+
+
+# Bit-swaps. A swap is its 64 places and its width. ----------------------------------------------------------------------
+
+
+class Swap:
+    def __init__(self, places, width):
+        self.places, self.width = places, width
+
+    def order(self):
+        """The entries that count: entry k names the old place that becomes place k."""
+        return self.places[: self.width]
+
+
+def swap_of(order):
+    return Swap(list(order) + [0] * (WIDEST - len(order)), len(order))
+
+
+def check_swap(swap):
+    if sorted(swap.order()) != list(range(1, swap.width + 1)) or any(x != 0 for x in swap.places[swap.width :]):
+        raise Refused(9)
+
+
+def moved(order, text):
+    return "".join(text[old - 1] for old in order)
+
+
+def apply_rule(swap, rule):
+    check_width(swap.width)
+    check_bare_rule(swap.width, 1, 1, *rule)
+    check_swap(swap)
+    text = moved(swap.order(), pattern(swap.width, rule[0], rule[1]))
+    return care_word(text), value_word(text), rule[2]
+
+
+def apply(swap, header):
+    """From wire order to swapped order."""
+    check_width(swap.width)
+    check_header(swap.width, header)
+    check_swap(swap)
+    return int(moved(swap.order(), bits(swap.width, header)), 2)
+
+
+def inverse(order):
+    return [order.index(old) + 1 for old in range(1, len(order) + 1)]
+
+
+def undo(swap, header):
+    """From swapped order back to wire order."""
+    check_width(swap.width)
+    check_header(swap.width, header)
+    check_swap(swap)
+    return int(moved(inverse(swap.order()), bits(swap.width, header)), 2)
+
+
+def invert(swap):
+    check_width(swap.width)
+    check_swap(swap)
+    return swap_of(inverse(swap.order()))
+
+
+def compose(first, second):
+    """The swap that does the first and then the second. The first one's faults come before the second's."""
+    for swap in (first, second):
+        check_width(swap.width)
+        check_swap(swap)
+    if first.width != second.width:
+        raise Refused(9)
+    return swap_of([first.places[k - 1] for k in second.order()])
+
+
+def prefix_swap(width, care, value, decision):
+    """The swap that puts every rule's stars last: places by the number of rules with a star there, fewest first, and the
+    lower place first on a tie. Where two rules cross there is none: the pair with the least second rule, then the least
+    first one."""
+    check_list(width, care, value, decision)
+    texts = [text for text, _ in rules_of(width, care, value, decision)]
+    for j in range(len(texts)):
+        for i in range(j):
+            if crosses_text(texts[i], texts[j]):
+                raise Refused(8, i + 1, j + 1)
+    starred = {place: sum(1 for text in texts if text[place - 1] == "*") for place in range(1, width + 1)}
+    return swap_of(sorted(range(1, width + 1), key=lambda place: (starred[place], place)))
+
+
+# Runs and weaving. ------------------------------------------------------------------------------------------------------
+
+
+def cut(rules):
+    """From the top, a run takes rules until the next one would cross one that is in it."""
+    runs = []
+    for rule in rules:
+        if runs and not any(crosses_text(rule[0], other[0]) for other in runs[-1]):
+            runs[-1].append(rule)
+        else:
+            runs.append([rule])
+    return runs
+
+
+def mergeable(a, b):
+    """Stars at the same places, one decision, and digits that differ at exactly one place."""
+    same_care = all((x == "*") == (y == "*") for x, y in zip(a[0], b[0]))
+    return a[1] == b[1] and same_care and sum(1 for x, y in zip(a[0], b[0]) if x != y) == 1
+
+
+def first_mergeable(chunk):
+    """The pair with the least first entry, then the least second."""
+    for i in range(len(chunk)):
+        for j in range(i + 1, len(chunk)):
+            if mergeable(chunk[i], chunk[j]):
+                return i, j
+    return None
+
+
+def merge_all(chunk):
+    """Merges pair after pair, each search from the start; the entries left, and the merges made."""
+    chunk, merges = list(chunk), 0
+    while True:
+        found = first_mergeable(chunk)
+        if found is None:
+            return chunk, merges
+        i, j = found
+        text = "".join(x if x == y else "*" for x, y in zip(chunk[i][0], chunk[j][0]))
+        chunk[i] = (text, chunk[i][1])
+        del chunk[j]
+        merges += 1
+
+
+def weave_run(run):
+    """The three steps on one run: what is left, the rules dropped, the merges made."""
+    left = [rule for k, rule in enumerate(run) if not any(covers_text(earlier[0], rule[0]) for earlier in run[:k])]
+    dropped = len(run) - len(left)
+    left.sort(key=lambda rule: rule[0].count("*"))  # Python's sort keeps the order of equals
+    kept, merges = [], 0
+    for stars in range(WIDEST + 1):
+        entries, made = merge_all([rule for rule in left if rule[0].count("*") == stars])
+        kept, merges = kept + entries, merges + made
+    return kept, dropped, merges
+
+
+def runs(width, care, value, decision, sizes):
+    """The number of runs; each run's number of rules is put into sizes, and 0 up to the number of rules."""
+    check_list(width, care, value, decision)
+    count = len(care)
+    if len(sizes) < count:
+        raise Refused(7)
+    lengths = [len(run) for run in cut(rules_of(width, care, value, decision))]
+    sizes[:count] = lengths + [0] * (count - len(lengths))
+    return len(lengths)
+
+
+def weave(width, care, value, decision, out_care, out_value, out_decision):
+    """Entries kept, rules dropped and merges made; the entries are put into the results, and 0 up to the number of rules."""
+    check_list(width, care, value, decision)
+    if not len(out_care) == len(out_value) == len(out_decision):
+        raise Refused(2)
+    count = len(care)
+    if len(out_care) < count:
+        raise Refused(7)
+    kept, dropped, merges = [], 0, 0
+    for run in cut(rules_of(width, care, value, decision)):
+        entries, run_dropped, run_merges = weave_run(run)
+        kept, dropped, merges = kept + entries, dropped + run_dropped, merges + run_merges
+    rest = [0] * (count - len(kept))
+    out_care[:count] = [care_word(text) for text, _ in kept] + rest
+    out_value[:count] = [value_word(text) for text, _ in kept] + rest
+    out_decision[:count] = [decision for _, decision in kept] + rest
+    return len(kept), dropped, merges
+
+
+# The comparison. --------------------------------------------------------------------------------------------------------
+
+BY_HEADERS = 10  # up to this width every header is looked up
+
+
+def stretches_by_headers(width, old, new):
+    """For every header, lowest first: the header twice, its old answer, its new answer."""
+    for h in range(2**width):
+        header = bits(width, h)
+        yield h, h, answer(old, header), answer(new, header)
+
+
+def narrowed(rules, digit):
+    """The rules that a header with this digit at the first place can match, without that place; nothing after a rule of
+    stars counts."""
+    left = []
+    for text, decision in rules:
+        if text[0] in ("*", digit):
+            left.append((text[1:], decision))
+            if text[1:].strip("*") == "":
+                break
+    return tuple(left)
+
+
+def settled(rules):
+    """The one answer that every header gets, or None where that is not to be seen at once."""
+    if not rules:
+        return NO_MATCH
+    if rules[0][0].strip("*") == "":
+        return rules[0][1]
+    return None
+
+
+class Tree:
+    """Both lists' answers by the first place, then by the second, and so on; equal parts are made once. A part in which both
+    answers are settled is a pair of answers, any other part is its two halves and whether the answers ever differ in it."""
+
+    def __init__(self):
+        self.made = {}
+
+    def part(self, old, new):
+        if (old, new) not in self.made:
+            self.made[old, new] = self.make(old, new)
+        return self.made[old, new]
+
+    def make(self, old, new):
+        a, b = settled(old), settled(new)
+        if a is not None and b is not None:
+            return (a, b, a != b)
+        low = self.part(narrowed(old, "0"), narrowed(new, "0"))
+        high = self.part(narrowed(old, "1"), narrowed(new, "1"))
+        if isinstance(low[0], int) and low == high:
+            return low
+        return (low, high, low[2] or high[2])
+
+
+def stretches_by_places(width, old, new, start):
+    """Stretches of consecutive headers with settled answers, lowest first, from the one that holds the start. Parts in which
+    no answer differs are left out."""
+
+    def walk(part, first, size):
+        if first + size <= start or not part[2]:
+            return
+        if isinstance(part[0], int):
+            yield first, first + size - 1, part[0], part[1]
+        else:
+            yield from walk(part[0], first, size // 2)
+            yield from walk(part[1], first + size // 2, size // 2)
+
+    yield from walk(Tree().part(tuple(old), tuple(new)), 0, 2**width)
+
+
+def differences(width, old, new, start):
+    """The runs of differences at or after the start, lowest first: first header, last header, old answer, new answer. Each is
+    as long as both answers stay."""
+    if width <= BY_HEADERS:
+        stretches = stretches_by_headers(width, old, new)
+    else:
+        stretches = stretches_by_places(width, old, new, start)
+    run = None
+    for first, last, a, b in stretches:
+        if last < start or a == b:
+            continue
+        first = max(first, start)
+        if run and run[1] + 1 == first and run[2:] == (a, b):
+            run = (run[0], last, a, b)
+        else:
+            if run:
+                yield run
+            run = (first, last, a, b)
+    if run:
+        yield run
+
+
+def compare(width, old, new, start, first, last, old_answer, new_answer):
+    """The number of runs put into the results, and the first header of the next run, or None where there is none."""
+    check_width(width)
+    check_bare_list(width, 1, *old)
+    check_bare_list(width, 2, *new)
+    check_header(width, start)
+    room = len(first)
+    if not room == len(last) == len(old_answer) == len(new_answer):
+        raise Refused(2)
+    if room < 1:
+        raise Refused(7)
+    count = 0
+    for run in differences(width, rules_of(width, *old), rules_of(width, *new), start):
+        if count == room:
+            return count, run[0]
+        first[count], last[count], old_answer[count], new_answer[count] = run
+        count += 1
+    return count, None
+
+
+# Images. ----------------------------------------------------------------------------------------------------------------
+
+
+def number(image, at, size):
+    """The number in so many bytes, the lowest byte first."""
+    return int.from_bytes(image[at : at + size], "little")
+
+
+def entry_at(image, k):
+    """Body offset, rule count and id of entry k (from 0) of the contents."""
+    at = HEAD + ENTRY * k
+    return number(image, at, 4), number(image, at + 4, 2), number(image, at + 6, 2)
+
+
+def rule_in(image, at):
+    return number(image, at, 8), number(image, at + 8, 8), number(image, at + 16, 2)
+
+
+def body_rules(image, entry):
+    offset, count, _ = entry
+    return [rule_in(image, offset + RULE * k) for k in range(count)]
+
+
+def entries(image):
+    return [entry_at(image, k) for k in range(image[2])]
+
+
+def check_image(image):
+    """10 for the size, 11, 1, 12; entry by entry 13, 14, 3, and 10 where the body passes the end; 10 for the whole; then
+    every list's rules."""
+    size = len(image)
+    if size < HEAD or size > LARGEST_IMAGE:
+        raise Refused(10)
+    if image[0] != 1 or image[3] != 0:
+        raise Refused(11)
+    check_width(image[1])
+    lists = image[2]
+    if not 1 <= lists <= MOST_LISTS or HEAD + ENTRY * lists > size:
+        raise Refused(12)
+    end, before = HEAD + ENTRY * lists, None
+    for k, (offset, count, id) in enumerate(entries(image)):
+        if before is not None and id <= before:
+            raise Refused(13, k + 1, 0)
+        if offset != end:
+            raise Refused(14, k + 1, 0)
+        if count > LONGEST:
+            raise Refused(3, k + 1, 0)
+        end, before = end + RULE * count, id
+        if end > size:
+            raise Refused(10, k + 1, 0)
+    if end != size:
+        raise Refused(10)
+    for k, entry in enumerate(entries(image)):
+        for number_of, rule in enumerate(body_rules(image, entry)):
+            check_bare_rule(image[1], k + 1, number_of + 1, *rule)
+
+
+def image_width(image):
+    check_image(image)
+    return image[1]
+
+
+def image_count(image):
+    """The number of lists."""
+    check_image(image)
+    return image[2]
+
+
+def find(image, id):
+    """The contents entry with this id."""
+    check_image(image)
+    for entry in entries(image):
+        if entry[2] == id:
+            return entry
+    raise Refused(15)
+
+
+def body(image, id):
+    """Where the body of the list with this id stands: its first byte's offset and its number of bytes."""
+    offset, count, _ = find(image, id)
+    return offset, RULE * count
+
+
+def read(image, id, care, value, decision):
+    """The number of rules read into the slices; later places stay."""
+    entry = find(image, id)
+    if not len(care) == len(value) == len(decision):
+        raise Refused(2)
+    rules = body_rules(image, entry)
+    if len(care) < len(rules):
+        raise Refused(7)
+    for k, rule in enumerate(rules):
+        care[k], value[k], decision[k] = rule
+    return len(rules)
+
+
+def image_bytes(width, counts, ids, rules):
+    """The bytes of the image that carries these lists, whose rules follow each other."""
+    head = bytes([1, width, len(ids), 0])
+    contents, bodies = b"", b""
+    offset = HEAD + ENTRY * len(ids)
+    for count, id in zip(counts, ids):
+        contents += offset.to_bytes(4, "little") + count.to_bytes(2, "little") + id.to_bytes(2, "little")
+        offset += RULE * count
+    for care, value, decision in rules:
+        bodies += care.to_bytes(8, "little") + value.to_bytes(8, "little") + decision.to_bytes(2, "little")
+    return head + contents + bodies
+
+
+def write(width, counts, ids, care, value, decision, out):
+    """The image's length; out is a list of bytes, of which only the image's are changed."""
+    check_width(width)
+    if len(counts) != len(ids) or not len(care) == len(value) == len(decision) or sum(counts) != len(care):
+        raise Refused(2)
+    if not 1 <= len(ids) <= MOST_LISTS:
+        raise Refused(12)
+    for k in range(len(ids)):
+        if k > 0 and ids[k] <= ids[k - 1]:
+            raise Refused(13, k + 1, 0)
+        if counts[k] > LONGEST:
+            raise Refused(3, k + 1, 0)
+    at = 0
+    for k in range(len(ids)):
+        for rule in range(counts[k]):
+            check_bare_rule(width, k + 1, rule + 1, care[at], value[at], decision[at])
+            at += 1
+    size = HEAD + ENTRY * len(ids) + RULE * len(care)
+    if size > LARGEST_IMAGE:
+        raise Refused(10)
+    if len(out) < size:
+        raise Refused(7)
+    out[:size] = image_bytes(width, counts, ids, zip(care, value, decision))
+    return size
+
+
+# Two images. ------------------------------------------------------------------------------------------------------------
+
+
+def first_lists(old_image, new_image):
+    """The first list of each of two images, the old image checked first: the width and the two lists."""
+    check_image(old_image)
+    check_image(new_image)
+    if old_image[1] != new_image[1]:
+        raise Refused(16)
+    lists = [list(zip(*body_rules(image, entry_at(image, 0)))) or [(), (), ()] for image in (old_image, new_image)]
+    return old_image[1], lists[0], lists[1]
+
+
+def bench(old_image, new_image, most=1000):
+    """The text that the bench program writes for two images."""
+    try:
+        width, old, new = first_lists(old_image, new_image)
+    except Refused as refused:
+        return "refused %d\n" % refused.number
+    results = [[0] * most for _ in range(4)]
+    count, more = compare(width, old, new, 0, *results)
+    named = lambda number: "none" if number == NO_MATCH else str(number)
+    lines = ["width %d" % width]
+    for first, last, a, b in list(zip(*results))[:count]:
+        lines.append("%d %d %s %s" % (first, last, named(a), named(b)))
+    lines.append("runs %d" % count if more is None else "more %d" % more)
+    return "".join(line + "\n" for line in lines)
