@@ -8,3 +8,5 @@ pub mod AskLaws
 pub mod PutLaws
 pub mod GivenLaws
 pub mod WriteLaws
+pub mod CompareLaws
+pub mod CompareUnique
