@@ -1,24 +1,24 @@
 -- What an image that passed its checks gives the comparison: bodies whose rules are sound lists of the width, and the first list.
 use mathlib.Core.Path.{_≡_, refl, sym, ap, _∙_, subst, subst⁻¹, subst₂}
-use mathlib.Core.List.{List, [], _∷_, _++_, map}
+use mathlib.Core.List.{List, [], _∷_, map}
 use mathlib.Core.Bool.{Bool, true, false}
-use Prim.Native.Nat.{ℕ, zero, suc, _+_, _*_, _≤_, _<_}
+use Prim.Native.Nat.{ℕ, zero, suc, _+_, _*_, _≤_}
 use native.Mathlib.Omega.{arith}
 use lib.Dec.{eqb}
-use lib.ListN.{length, getD, take, drop, length-map}
+use lib.ListN.{length, take, drop, length-map}
 use lib.Seq.{drop-drop, take-at}
 use borrow.Author.Tests.{eq-eqb, ne-eqb, eqb-true}
 use Rattle.rules.specs.declared.Rule.{Rule}
 use Rattle.rules.specs.declared.Refusal.{Refusal}
 use Rattle.rules.specs.declared.Verdict.{Verdict}
 use Rattle.rules.specs.Rules.{Valid}
-use Rattle.rules.specs.Slices.{rulesOf, Lent}
+use Rattle.rules.specs.Slices.{rulesOf}
 use Rattle.rules.specs.Lists.{All}
-use Rattle.rules.specs.Replies.{Reply, Gives, Refuses, passed, need, _then_, verdictReply, refusalReply}
+use Rattle.rules.specs.Replies.{Reply, Refuses, passed, need, _then_, verdictReply}
 use Rattle.rules.specs.Checks.{rulesCheck}
 use Rattle.rules.specs.Calls.{checkList}
 use Rattle.rules.proofs.ReplyLaws.{then-next, then-second, fine-next, refused-stop, verdict-stop, need-yes, need-no, need-passed}
-use Rattle.rules.proofs.CheckLaws.{Sound, sound-list, rules-valid}
+use Rattle.rules.proofs.CheckLaws.{sound-list, rules-valid}
 use Rattle.compare.specs.declared.Compared.{Compared}
 use Rattle.compare.specs.declared.Ending.{Ending}
 use Rattle.compare.specs.Runs.{Run, differences}
@@ -26,18 +26,18 @@ use Rattle.compare.specs.Calls.{Outcome, portionCheck, compareCheck, Comparison
 use Rattle.compare.proofs.VerdictLaws.{in-order, outcome-refused}
 use Rattle.image.specs.declared.places.Place.{Place}
 use Rattle.image.specs.Bytes.{num}
-use Rattle.image.specs.Images.{Entry, Named, widthIn, countIn, entriesIn, entriesOf, rulesIn, listsIn, listsOf}
+use Rattle.image.specs.Images.{Entry, entryWith, widthIn, countIn, entriesOf, rulesIn, listsIn, listsOf}
 use Rattle.image.specs.Checks.{entryCheck, entriesCheck, listsCheck, headCheck, contentsCheck, bodiesCheck, imageCheck}
 use Rattle.image.specs.Places.{placeIn, placeAt, pickPlace, placeOf, listWith}
-use Rattle.image.specs.Calls.{careOf, valueOf, decisionOf}
+use Rattle.image.specs.Calls.{entryNumber, careOf, valueOf, decisionOf}
 use Rattle.image.specs.Filled.{Filled}
 use Rattle.image.specs.Comparing.{rulesOfFirst, firstRules, imagesCheck, idsCheck, compareListsCheck, compareFirstCheck, ListsCompared, FirstCompared}
 use Rattle.image.specs.Bodies.{Checked, Held, Portion}
 use Rattle.image.proofs.NumberLaws.{num-in}
-use Rattle.image.proofs.BareLaws.{bare-first, bare-then, bare-need, bare-entry, bare-rules, bare-image, bare-head, bare-contents}
+use Rattle.image.proofs.BareLaws.{bare-first, bare-then, bare-need, bare-entry, bare-rules, bare-image, bare-contents}
 use Rattle.image.proofs.HeadLaws.{entry-facts}
 use Rattle.image.proofs.StepLaws.{entries-step}
-use Rattle.image.proofs.SeekLaws.{ImageFacts, image-facts, place-fits, place-start, place-here, length-rulesIn}
+use Rattle.image.proofs.SeekLaws.{image-facts, place-fits, place-start, place-here, entry-stands, length-rulesIn}
 
 -- ---- rules in three slices
 
@@ -161,6 +161,12 @@ unfolding listWith
 first-list b f =
     let h : 1 ≤ countIn b = image-facts b [] f .head .some in
     ap (λ (p : Place). rulesIn (p .count) (drop (p .from) b)) (first-found b h) ∙ sym (first-rules b h)
+
+-- the same, by the id that the first contents entry tells
+pub first-listed : (b : List ℕ) → imageCheck b ≡ passed → listWith b (entryNumber b 1 .id) ≡ firstRules b
+first-listed b f =
+    let h : 1 ≤ countIn b = image-facts b [] f .head .some in
+    ap (listWith b) (ap (λ (e : Entry). e .id) (entry-stands b 0 (entryWith 0 0 0) (omega arith)) ∙ num-in 2 4 6 b) ∙ first-list b f
 
 -- ---- the checks of both images
 

@@ -1,6 +1,3 @@
-use mathlib.Core.Path.{_≡_, refl, sym, ap, _∙_}
-use mathlib.Core.List.{[]}
-use native.Mathlib.Omega.{arith}
 use Rattle.image.proofs.CompareLaws.{lists-refused, lists-compared, ids-passed}
 use borrow.Author.Needs.{needs}
 use Rattle.image.proofs.comparing.compare_lists.Statement.{statement}

@@ -1,6 +1,3 @@
-use mathlib.Core.Path.{_≡_, refl, sym, ap, _∙_}
-use mathlib.Core.List.{[]}
-use native.Mathlib.Omega.{arith}
 use Rattle.image.proofs.CompareLaws.{held-cares, held-values, held-decisions, room-cares, room-values, room-decisions, with-portion}
 use borrow.Author.Needs.{needs}
 use Rattle.image.proofs.comparing.compare_with.Statement.{statement}

@@ -1,6 +1,3 @@
-use mathlib.Core.Path.{_≡_, refl, sym, ap, _∙_}
-use mathlib.Core.List.{[]}
-use native.Mathlib.Omega.{arith}
 use Rattle.image.proofs.CompareLaws.{filled-held}
 use Rattle.image.proofs.SeekLaws.{length-rulesIn}
 use borrow.Author.Needs.{needs}

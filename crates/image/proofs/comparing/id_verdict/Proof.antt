@@ -1,6 +1,5 @@
-use mathlib.Core.Path.{_≡_, refl, sym, ap, _∙_}
+use mathlib.Core.Path.{_∙_}
 use mathlib.Core.List.{[]}
-use native.Mathlib.Omega.{arith}
 use Rattle.image.proofs.CompareLaws.{found-yes, found-no}
 use Rattle.image.proofs.SeekLaws.{image-facts}
 use borrow.Author.Needs.{needs}

@@ -1,6 +1,4 @@
-use mathlib.Core.Path.{_≡_, refl, sym, ap, _∙_}
-use mathlib.Core.List.{[]}
-use native.Mathlib.Omega.{arith}
+use mathlib.Core.Path.{sym, ap, _∙_}
 use Rattle.rules.specs.Replies.{verdictReply}
 use Rattle.image.proofs.CompareLaws.{old-passed, new-passed, ids-images, ids-old, ids-new}
 use borrow.Author.Needs.{needs}

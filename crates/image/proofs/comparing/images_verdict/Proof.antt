@@ -1,5 +1,4 @@
-use mathlib.Core.Path.{_≡_, refl, sym, ap, _∙_}
-use mathlib.Core.List.{[]}
+use mathlib.Core.Path.{_∙_}
 use native.Mathlib.Omega.{arith}
 use Rattle.image.proofs.CompareLaws.{images-old, images-new, images-sixteen, images-fine}
 use Rattle.image.proofs.SeekLaws.{fine-facts}
