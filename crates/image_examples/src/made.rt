@@ -31,3 +31,12 @@ pub fn one_list() -> [u8; 30] {
     image::write(3, &ids, &counts, &care, &value, &decision, &mut out);
     out
 }
+
+// The first n bytes; none where there are fewer.
+pub fn first(b: &[u8], n: usize) -> &[u8] {
+    let from: usize = 0;
+    if n <= b.len() {
+        return &b[from..n];
+    }
+    &b[..0]
+}

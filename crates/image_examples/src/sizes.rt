@@ -1,4 +1,5 @@
 // The smallest and the largest images.
+use crate::made::first;
 use crate::made::one_list;
 use crate::made::put;
 use crate::show::bytes;
@@ -11,7 +12,7 @@ pub fn document_image() {
     let b = one_list();
     bytes(b"document 01:", &b);
     verdict(b"30 bytes: ", image::check(&b));
-    verdict(b"29 bytes: ", image::check(&b[..29]));
+    verdict(b"29 bytes: ", image::check(first(&b, 29)));
 }
 
 // The same image with a byte behind it, which the writer leaves as it is.
@@ -50,14 +51,12 @@ pub fn largest() {
 
 fn largest_checked(out: &[u8]) {
     verdict(b"65,537 bytes: ", image::check(out));
-    if 65536 <= out.len() {
-        let b = &out[..65536];
-        sum(b"all bytes: ", b);
-        verdict(b"65,536 bytes: ", image::check(b));
-        listed(b"entry 4: ", image::entry(b, 4));
-        sum(b"body 4: ", image::body(b, 4));
-        sum(b"body 6: ", image::body(b, 6));
-    }
+    let b = first(out, 65536);
+    sum(b"all bytes: ", b);
+    verdict(b"65,536 bytes: ", image::check(b));
+    listed(b"entry 4: ", image::entry(b, 4));
+    sum(b"body 4: ", image::body(b, 4));
+    sum(b"body 6: ", image::body(b, 6));
 }
 
 // A list of 1,024 rules passes; one of 1,025 does not.
