@@ -1,25 +1,25 @@
 -- What was written, read again.
-use mathlib.Core.Path.{_≡_, refl, sym, ap, ap₂, _∙_, subst}
+use mathlib.Core.Path.{_≡_, refl, sym, ap, _∙_}
 use mathlib.Core.List.{List, [], _∷_, _++_, append-assoc, append-nil}
-use Prim.Native.Nat.{ℕ, zero, suc, _+_, _-_, _*_, _/_, _%_, _^_, _≤_, _<_}
+use Prim.Native.Nat.{ℕ, zero, suc, _+_, _-_, _*_, _/_, _^_, _≤_, _<_}
 use native.Mathlib.Nat.{div-lt-iff-lt-mul, div-add-mod', pow-suc, lt-of-lt-of-le}
 use native.Mathlib.Omega.{arith}
 use lib.Dec.{lit<}
 use lib.Bits.{and-le-r}
 use lib.Pow.{pow-mono}
-use lib.ListN.{length, getD, take, drop, length-append}
+use lib.ListN.{length, take, drop, length-append}
 use lib.Seq.{drop-drop, take-at, drop-at}
-use borrow.Author.Tests.{le-leb, eq-eqb}
+use borrow.Author.Tests.{eq-eqb}
 use Rattle.rules.specs.declared.Rule.{Rule}
 use Rattle.rules.specs.Rules.{rule, Valid}
 use Rattle.rules.specs.Lists.{All}
-use Rattle.rules.specs.Replies.{Reply, Gives, Refuses, passed, need, _then_}
+use Rattle.rules.specs.Replies.{passed}
 use Rattle.rules.specs.Checks.{rulesCheck}
 use Rattle.rules.proofs.ReplyLaws.{then-next, then-second}
 use Rattle.rules.proofs.CheckLaws.{rules-valid}
-use Rattle.image.specs.Bytes.{le, num, part, bytes}
-use Rattle.image.specs.Images.{Named, named, Entry, entryWith, ruleIn, rulesIn, entryIn, entriesIn, listsIn, countIn, widthIn, entriesOf, listsOf, ruleBytes, rulesBytes, bodiesBytes, entryBytes, entriesFor, contentsBytes, bytesOf}
-use Rattle.image.specs.Checks.{entryCheck, entriesCheck, listsCheck, contentsCheck, headCheck, bodiesCheck, imageCheck}
+use Rattle.image.specs.Bytes.{le, num, bytes}
+use Rattle.image.specs.Images.{Named, Entry, entryWith, ruleIn, rulesIn, entryIn, entriesIn, listsIn, entriesOf, listsOf, ruleBytes, rulesBytes, bodiesBytes, entryBytes, entriesFor, contentsBytes, bytesOf}
+use Rattle.image.specs.Checks.{entriesCheck, listsCheck, contentsCheck, headCheck, bodiesCheck, imageCheck}
 use Rattle.image.proofs.BareLaws.{bare-first, bare-rules}
 use Rattle.image.proofs.HeadLaws.{entry-fine, head-fine}
 use Rattle.image.proofs.PutLaws.{length-bytes, length-rulesBytes, length-contents}

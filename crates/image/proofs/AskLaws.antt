@@ -1,7 +1,7 @@
 -- What the calls that ask of an image and read a list out reply, as the code's tests come to it.
-use mathlib.Core.Path.{_≡_, refl, sym, ap, ap₂, _∙_}
-use mathlib.Core.List.{List, [], _∷_, _++_}
-use mathlib.Core.Bool.{Bool, true, false, _&&_}
+use mathlib.Core.Path.{_≡_, sym, ap, _∙_}
+use mathlib.Core.List.{List, [], _∷_}
+use mathlib.Core.Bool.{Bool}
 use Prim.Native.Nat.{ℕ, _+_, _-_, _*_, _≤_, _<_}
 use native.Mathlib.Omega.{arith}
 use lib.Dec.{leb, eqb}
@@ -11,13 +11,12 @@ use Rattle.rules.specs.declared.Refusal.{Refusal}
 use Rattle.rules.specs.declared.Verdict.{Verdict}
 use Rattle.rules.specs.Replies.{Reply, Gives, Refuses, passed, need, _then_, verdictReply, refusalReply}
 use Rattle.rules.specs.Checks.{lengthsCheck, roomCheck}
-use Rattle.rules.specs.Slices.{Lent}
 use Rattle.rules.proofs.Tests.{true-and, and-on, and-off}
 use Rattle.rules.proofs.ReplyLaws.{then-next, then-refuses, fine-next, refused-stop, need-yes, need-no}
 use Rattle.image.specs.declared.Outcome.{Outcome}
 use Rattle.image.specs.declared.places.Place.{Place}
 use Rattle.image.specs.Bytes.{num}
-use Rattle.image.specs.Images.{Entry, entryWith, entryIn, countIn, rulesIn}
+use Rattle.image.specs.Images.{Entry, entryWith, countIn, rulesIn}
 use Rattle.image.specs.Checks.{imageCheck}
 use Rattle.image.specs.Places.{placeOf, listWith}
 use Rattle.image.specs.Replies.{outcomeReply, afterwards}

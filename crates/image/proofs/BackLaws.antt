@@ -1,18 +1,18 @@
 -- What was read, written again: the bytes of an image that passed.
-use mathlib.Core.Path.{_≡_, refl, sym, ap, ap₂, _∙_, subst}
-use mathlib.Core.List.{List, [], _∷_, _++_, append-assoc}
-use Prim.Native.Nat.{ℕ, zero, suc, _+_, _-_, _*_, _/_, _%_, _^_, _≤_, _<_}
-use native.Mathlib.Nat.{mul-suc, not-suc-le-zero, le-refl}
+use mathlib.Core.Path.{_≡_, refl, sym, ap, ap₂, _∙_}
+use mathlib.Core.List.{List, [], _∷_, _++_}
+use Prim.Native.Nat.{ℕ, zero, suc, _+_, _-_, _*_, _≤_, _<_}
+use native.Mathlib.Nat.{not-suc-le-zero}
 use native.Mathlib.Omega.{arith}
 use lib.Arith.{digits-div, digits-mod}
 use lib.ListN.{length, getD, take, drop, length-drop, take-append-drop}
-use lib.Seq.{drop-cons, drop-drop, take-add, length-take-le, take-all}
+use lib.Seq.{drop-drop, take-add, take-all}
 use Rattle.rules.specs.Lists.{All}
-use Rattle.rules.specs.Replies.{Reply, Gives, passed, _then_}
+use Rattle.rules.specs.Replies.{passed}
 use Rattle.rules.proofs.ReplyLaws.{then-second}
 use Rattle.image.specs.Bytes.{le, num, part, bytes}
 use Rattle.image.specs.Images.{Named, Entry, entryWith, ruleIn, rulesIn, entryIn, entriesIn, listsIn, total, countIn, widthIn, entriesOf, listsOf, ruleBytes, rulesBytes, bodiesBytes, entryBytes, entriesFor, contentsBytes, bytesOf}
-use Rattle.image.specs.Checks.{entryCheck, entriesCheck, contentsCheck, headCheck, bodiesCheck, imageCheck}
+use Rattle.image.specs.Checks.{entryCheck, entriesCheck, contentsCheck, headCheck, imageCheck}
 use Rattle.image.proofs.NumberLaws.{length-part}
 use Rattle.image.proofs.BareLaws.{bare-first, bare-entry, bare-head, bare-contents}
 use Rattle.image.proofs.HeadLaws.{entry-facts, head-facts}

@@ -1,26 +1,23 @@
 -- From a writer's arguments to lists that can be carried, and from the lists of an image back to a writer's arguments.
 use mathlib.Core.Path.{_≡_, refl, sym, ap, ap₂, _∙_}
 use mathlib.Core.List.{List, [], _∷_, _++_, map}
-use mathlib.Core.Bool.{Bool, true, false}
 use Prim.Native.Nat.{ℕ, zero, suc, _+_, _-_, _*_, _≤_, _<_}
 use native.Mathlib.Omega.{arith}
-use lib.Dec.{leb, eqb}
-use lib.ListN.{length, getD, take, drop, length-drop, length-append, take-append-drop}
-use lib.Seq.{length-take-le, take-at, drop-at, take-add, drop-drop}
+use lib.Dec.{leb}
+use lib.ListN.{length, take, drop, length-drop, length-append}
+use lib.Seq.{length-take-le, take-at, drop-at}
 use borrow.Author.Tests.{leb-true, le-leb, eq-eqb}
 use Rattle.rules.specs.declared.Rule.{Rule}
-use Rattle.rules.specs.Rules.{rule}
 use Rattle.rules.specs.Lists.{All}
-use Rattle.rules.specs.Replies.{Reply, Gives, passed, need, _then_}
-use Rattle.rules.specs.Checks.{widthCheck, lengthsCheck, sizeCheck, roomCheck}
+use Rattle.rules.specs.Replies.{passed, need}
+use Rattle.rules.specs.Checks.{sizeCheck}
 use Rattle.rules.specs.Slices.{rulesOf}
 use Rattle.rules.proofs.ReplyLaws.{then-next, then-second, need-then, need-yes}
 use Rattle.rules.proofs.CheckLaws.{width-yes}
 use Rattle.rules.proofs.Tests.{true-and}
-use Rattle.image.specs.Bytes.{num, part, le}
-use Rattle.image.specs.Images.{Named, named, Entry, ruleIn, rulesIn, listsIn, total, countIn, widthIn, entriesIn, entriesOf, listsOf, bytesOf}
+use Rattle.image.specs.Bytes.{le}
+use Rattle.image.specs.Images.{Named, named, Entry, listsIn, total, countIn, widthIn, entriesIn, entriesOf, listsOf}
 use Rattle.image.specs.Checks.{entryCheck, entriesCheck, listsCheck, contentsCheck, headCheck, bodiesCheck, imageCheck}
-use Rattle.image.specs.Places.{placeIn, placeAt, pickPlace, placeOf, listWith}
 use Rattle.image.specs.Calls.{careOf, valueOf, decisionOf}
 use Rattle.image.specs.Writing.{sumOf, cut, given, namesCheck, imageLength, givenCheck, shapeCheck, writeCheck}
 use Rattle.image.proofs.BareLaws.{bare-first, bare-entry, bare-head, bare-contents}

@@ -1,33 +1,31 @@
 -- The writer's checks, and how the lists that it is given follow the slices.
 use mathlib.Core.Path.{_≡_, refl, sym, ap, ap₂, _∙_}
-use mathlib.Core.List.{List, [], _∷_, _++_}
-use mathlib.Core.Bool.{Bool, true, false, _&&_}
+use mathlib.Core.List.{List, [], _∷_}
+use mathlib.Core.Bool.{Bool, true, false}
 use Prim.Native.Nat.{ℕ, zero, suc, _+_, _-_, _*_, _≤_, _<_}
 use native.Mathlib.Numerals.{add-one}
 use native.Mathlib.Omega.{arith}
 use lib.Dec.{leb, eqb}
-use lib.ListN.{length, getD, take, drop, drop-of-length-le, length-drop, length-take}
-use lib.Seq.{drop-cons, drop-drop, length-take-le, take-all}
-use borrow.Author.Tests.{eq-eqb, ne-eqb, le-leb, lt-leb, leb-true, eqb-true}
+use lib.ListN.{length, getD, take, drop, drop-of-length-le}
+use lib.Seq.{drop-cons, drop-drop}
+use borrow.Author.Tests.{eq-eqb, ne-eqb, le-leb, lt-leb, leb-true}
 use Rattle.rules.specs.declared.Rule.{Rule}
 use Rattle.rules.specs.declared.Refusal.{Refusal}
 use Rattle.rules.specs.declared.Verdict.{Verdict}
 use Rattle.rules.specs.Rules.{rule}
-use Rattle.rules.specs.Replies.{Reply, Gives, Refuses, passed, need, _then_, verdictReply, refusalReply}
+use Rattle.rules.specs.Replies.{Refuses, passed, need, _then_, verdictReply}
 use Rattle.rules.specs.Checks.{widthCheck, lengthsCheck, sizeCheck, rulesCheck, roomCheck}
 use Rattle.rules.specs.Calls.{checkList}
 use Rattle.rules.specs.Slices.{rulesOf, Lent}
 use Rattle.rules.proofs.Tests.{true-and, and-true, same-test, eqb-yes, yes-eqb}
 use Rattle.rules.proofs.ReplyLaws.{then-next, then-refuses, fine-next, verdict-stop, need-yes, need-no, need-then, need-passed, then-second}
-use Rattle.rules.proofs.CheckLaws.{width-yes, width-no, width-then, width-passed, list-rules}
-use Rattle.rules.proofs.SliceLaws.{rules-take, rules-length}
+use Rattle.rules.proofs.CheckLaws.{width-yes, width-then, width-passed, list-rules}
+use Rattle.rules.proofs.SliceLaws.{rules-take}
 use Rattle.image.specs.Bytes.{part}
-use Rattle.image.specs.Images.{Named, named, entryWith, entriesFor, rulesBytes, bodiesBytes}
 use Rattle.image.specs.Checks.{listsCheck}
-use Rattle.image.specs.Writing.{sumOf, cut, given, namesCheck, imageLength, givenCheck, shapeCheck, writeCheck, writeReply}
-use Rattle.image.specs.Putting.{entriesGiven}
+use Rattle.image.specs.Writing.{sumOf, cut, given, namesCheck, imageLength, givenCheck, shapeCheck, writeCheck}
 use Rattle.image.proofs.NumberLaws.{length-part}
-use Rattle.image.proofs.BareLaws.{Bare, bare-need, bare-then, bare-first, bare-lists}
+use Rattle.image.proofs.BareLaws.{Bare, bare-need, bare-then, bare-first}
 use Rattle.image.proofs.AskLaws.{lengths-values, lengths-decisions, lengths-yes, room-yes, room-no}
 
 -- ---- counts

@@ -1,11 +1,11 @@
 -- The head's and an entry's checks as the code's tests come to them.
-use mathlib.Core.Path.{_≡_, refl, sym, ap, _∙_}
-use mathlib.Core.List.{List, [], _∷_, _++_}
+use mathlib.Core.Path.{_≡_}
+use mathlib.Core.List.{List, []}
 use Prim.Native.Nat.{ℕ, _+_, _*_, _≤_, _<_}
-use lib.ListN.{length, getD, drop}
+use lib.ListN.{length, getD}
 use lib.Dec.{leb, eqb}
 use borrow.Author.Tests.{le-leb, lt-leb, eq-eqb, ne-eqb, leb-true, eqb-true}
-use Rattle.rules.specs.Replies.{Reply, Gives, Refuses, passed, need, _then_}
+use Rattle.rules.specs.Replies.{Refuses, passed, need}
 use Rattle.rules.specs.Checks.{widthCheck, sizeCheck}
 use Rattle.rules.proofs.ReplyLaws.{need-then, need-passed, then-second}
 use Rattle.rules.proofs.CheckLaws.{width-then, width-passed}

@@ -1,12 +1,11 @@
 -- Numbers from bytes: a number of n + m bytes is one of n and one of m.
-use mathlib.Core.Path.{_≡_, refl, sym, ap, ap₂, _∙_}
+use mathlib.Core.Path.{_≡_, sym, ap, ap₂, _∙_}
 use mathlib.Core.List.{List, [], _∷_, _++_}
-use Prim.Native.Nat.{ℕ, zero, suc, _+_, _-_, _*_, _^_, _≤_, _<_}
+use Prim.Native.Nat.{ℕ, _+_, _-_, _*_, _^_, _≤_, _<_}
 use native.Mathlib.Nat.{pow-suc}
 use native.Mathlib.Omega.{arith}
 use lib.ListN.{length, getD, take, drop, length-drop}
 use lib.Seq.{drop-cons, drop-drop, take-add, length-take-le}
-use Rattle.rules.specs.declared.Rule.{Rule}
 use Rattle.rules.specs.Rules.{rule}
 use Rattle.image.specs.Bytes.{le, num, part}
 use Rattle.image.specs.Images.{ruleIn}

@@ -29,9 +29,6 @@ over-none s p = ap (λ (k : ℕ). take p s ++ drop k s) (add-zero p) ∙ take-ap
 pub over-imaged : (s l : List ℕ) → over s 0 l ≡ imaged l s
 over-imaged s l = ap (λ (k : ℕ). l ++ drop k s) (zero-add (length l))
 
-pub over-length : (s : List ℕ) (p : ℕ) (l : List ℕ) → p + length l ≤ length s → length (over s p l) ≡ length s
-over-length s p l h = simp length-append (omega (arith, length-take-le p s (omega arith), length-drop (p + length l) s))
-
 -- to write l, and then m behind it, is to write both
 pub over-over : (s : List ℕ) (p q : ℕ) (l m : List ℕ) → q ≡ p + length l → p + length l + length m ≤ length s → over (over s p l) q m ≡ over s p (l ++ m)
 over-over s p q l m e h =

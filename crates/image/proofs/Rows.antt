@@ -4,13 +4,13 @@ use mathlib.Core.List.{List, [], _∷_, _++_}
 use Prim.Native.Nat.{ℕ}
 use lib.ListN.{length, take}
 use Rattle.rules.specs.Rules.{rule}
-use Rattle.rules.specs.Replies.{Gives, Refuses, passed}
+use Rattle.rules.specs.Replies.{Refuses, passed}
 use Rattle.rules.specs.Checks.{widthCheck, sizeCheck, patternFits, ruleCheck, rulesCheck}
 use Rattle.image.specs.Bytes.{le, bytes}
 use Rattle.image.specs.Images.{Named, named, rulesIn, entriesIn, listsIn, entriesOf, listsOf, rulesBytes, bodiesBytes, entriesFor, contentsBytes, bytesOf}
 use Rattle.image.specs.Checks.{headCheck, entryCheck, entriesCheck, contentsCheck, listsCheck, bodiesCheck, imageCheck}
 use Rattle.image.specs.Places.{placeIn, placeOf}
-use Rattle.image.specs.Calls.{idCheck, bodyOf}
+use Rattle.image.specs.Calls.{idCheck}
 
 abbrev image : List ℕ
 image = 1 ∷ 3 ∷ 1 ∷ 0 ∷ 12 ∷ 0 ∷ 0 ∷ 0 ∷ 1 ∷ 0 ∷ 1 ∷ 0 ∷ 4 ∷ 0 ∷ 0 ∷ 0 ∷ 0 ∷ 0 ∷ 0 ∷ 0 ∷ 0 ∷ 0 ∷ 0 ∷ 0 ∷ 0 ∷ 0 ∷ 0 ∷ 0 ∷ 1 ∷ 0 ∷ []

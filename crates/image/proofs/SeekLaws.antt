@@ -5,27 +5,24 @@ use native.Mathlib.Omega.{arith}
 use native.Mathlib.Numerals.{add-one}
 use mathlib.Core.Bool.{Bool, true, false}
 use Prim.Native.Nat.{ℕ, zero, suc, _+_, _-_, _*_, _≤_, _<_}
-use lib.Dec.{eqb, leb}
-use lib.ListN.{length, getD, set, take, drop}
+use lib.Dec.{eqb}
+use lib.ListN.{length, getD, set, drop}
 use lib.Seq.{drop-drop, drop-cons, set-at, append-snoc}
-use borrow.Author.Tests.{eq-eqb, ne-eqb, le-leb, lt-leb, eqb-true, leb-true}
+use borrow.Author.Tests.{eq-eqb, ne-eqb}
 use Rattle.rules.specs.declared.Rule.{Rule}
 use Rattle.rules.specs.declared.Refusal.{Refusal}
 use Rattle.rules.specs.declared.Verdict.{Verdict}
-use Rattle.rules.specs.Replies.{Reply, Gives, Refuses, passed, need, _then_, verdictReply, refusalReply}
-use Rattle.rules.specs.Checks.{lengthsCheck, roomCheck}
+use Rattle.rules.specs.Replies.{Reply, Gives, Refuses, passed, verdictReply}
 use Rattle.rules.specs.Slices.{Lent, Placed}
-use Rattle.rules.proofs.Tests.{true-and, and-on, and-off}
-use Rattle.rules.proofs.ReplyLaws.{then-next, then-stop, then-refuses, fine-next, verdict-stop, refused-stop, need-yes, need-no, need-passed, need-then, then-second, then-assoc}
+use Rattle.rules.proofs.ReplyLaws.{fine-next, verdict-stop, need-yes, need-no, then-second}
 use Rattle.rules.proofs.SliceLaws.{Kept, placed-yes, placed-kept}
-use Rattle.image.specs.declared.Outcome.{Outcome}
 use Rattle.image.specs.declared.places.Place.{Place}
 use Rattle.image.specs.Bytes.{num, part}
-use Rattle.image.specs.Images.{Entry, entryWith, entryIn, entriesIn, entriesOf, countIn, widthIn, total, ruleIn, rulesIn}
+use Rattle.image.specs.Images.{Entry, entryIn, entriesIn, entriesOf, countIn, total, ruleIn, rulesIn}
 use Rattle.image.specs.Checks.{imageCheck, headCheck, contentsCheck}
-use Rattle.image.specs.Places.{placeIn, placeAt, pickPlace, placeOf, listWith}
-use Rattle.image.specs.Replies.{outcomeReply, afterwards}
-use Rattle.image.specs.Calls.{idCheck, bodyOf, readReply, ReadOut, filled, careOf, valueOf, decisionOf}
+use Rattle.image.specs.Places.{placeIn, placeAt, pickPlace, placeOf}
+use Rattle.image.specs.Replies.{afterwards}
+use Rattle.image.specs.Calls.{idCheck, bodyOf, filled, careOf, valueOf, decisionOf}
 use Rattle.image.specs.Filled.{Filled}
 use Rattle.image.proofs.NumberLaws.{num-in}
 use Rattle.image.proofs.BareLaws.{bare-first, bare-image, bare-head, bare-contents}

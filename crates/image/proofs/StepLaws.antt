@@ -1,29 +1,27 @@
 -- One turn of each loop that checks an image.
-use mathlib.Core.Path.{_≡_, refl, sym, ap, ap₂, _∙_}
-use mathlib.Core.List.{List, [], _∷_, _++_}
-use Prim.Native.Nat.{ℕ, zero, suc, _+_, _-_, _*_, _^_, _≤_, _<_}
+use mathlib.Core.Path.{_≡_, sym, ap, _∙_}
+use mathlib.Core.List.{List, [], _∷_}
+use Prim.Native.Nat.{ℕ, zero, suc, _+_, _-_, _*_, _≤_, _<_}
 use native.Mathlib.Nat.{not-suc-le-zero}
 use native.Mathlib.Omega.{arith}
-use lib.ListN.{length, getD, take, drop}
+use lib.ListN.{length, drop}
 use lib.Seq.{drop-drop}
-use mathlib.Core.Bool.{Bool, true, false}
 use borrow.Author.Tests.{eq-eqb, ne-eqb, le-leb, eqb-true}
 use lib.Dec.{eqb}
 use Rattle.rules.specs.declared.Rule.{Rule}
 use Rattle.rules.specs.declared.Refusal.{Refusal}
 use Rattle.rules.specs.declared.Verdict.{Verdict}
-use Rattle.rules.specs.Replies.{Reply, Gives, Refuses, passed, need, _then_, verdictReply}
+use Rattle.rules.specs.Replies.{Refuses, passed, _then_, verdictReply}
 use Rattle.rules.specs.Checks.{ruleCheck, rulesCheck}
 use Rattle.rules.specs.Calls.{checkRule}
 use Rattle.rules.proofs.Tests.{true-and}
 use Rattle.rules.proofs.ReplyLaws.{verdict-stop, fine-next, need-passed, then-next, then-second}
 use Rattle.rules.proofs.CheckLaws.{width-yes}
 use Rattle.image.specs.Bytes.{num}
-use Rattle.image.specs.Images.{Named, Entry, ruleIn, rulesIn, entryIn, entriesIn, listsIn, total, countIn, widthIn, entriesOf, listsOf}
+use Rattle.image.specs.Images.{Entry, ruleIn, rulesIn, entryIn, entriesIn, listsIn, total, countIn, widthIn, entriesOf, listsOf}
 use Rattle.image.specs.Checks.{entryCheck, entriesCheck, listsCheck, contentsCheck, headCheck, bodiesCheck, imageCheck}
 use Rattle.image.proofs.NumberLaws.{num-in}
-use Rattle.image.proofs.BareLaws.{bare-first, bare-entry}
-use Rattle.image.proofs.HeadLaws.{EntryFacts, entry-facts}
+use Rattle.image.proofs.HeadLaws.{entry-facts}
 
 less-one : (n : ℕ) → suc n - 1 ≡ n
 less-one n = omega arith

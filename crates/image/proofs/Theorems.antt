@@ -1,34 +1,33 @@
 -- What holds of images: written and read back, read and written again, bodies and offsets.
 use mathlib.Core.Path.{_≡_, refl, sym, ap, ap₂, _∙_}
-use mathlib.Core.List.{List, [], _∷_, _++_, map}
+use mathlib.Core.List.{List, [], _∷_, map}
 use mathlib.Core.Bool.{Bool, true, false}
 use Prim.Native.Nat.{ℕ, zero, suc, _+_, _-_, _*_, _≤_, _<_}
 use native.Mathlib.Nat.{zero-add, suc-add}
 use native.Mathlib.Omega.{arith}
 use lib.Dec.{eqb}
 use lib.ListN.{length, getD, take, drop, length-drop}
-use lib.Seq.{drop-drop, drop-cons}
+use lib.Seq.{drop-drop}
 use Rattle.rules.specs.declared.Rule.{Rule}
 use Rattle.rules.specs.Rules.{rule}
 use Rattle.rules.specs.Lists.{All}
-use Rattle.rules.specs.Replies.{Reply, Gives, passed, need, _then_}
+use Rattle.rules.specs.Replies.{Reply, Gives, passed}
 use Rattle.rules.proofs.ReplyLaws.{then-next, then-second}
 use Rattle.image.specs.declared.Outcome.{Outcome}
 use Rattle.image.specs.declared.places.Place.{Place}
-use Rattle.image.specs.Bytes.{num, part, le}
-use Rattle.image.specs.Images.{Named, named, Entry, entryWith, ruleIn, rulesIn, listsIn, total, countIn, widthIn, entriesOf, listsOf, rulesBytes, bytesOf}
+use Rattle.image.specs.Bytes.{part, le}
+use Rattle.image.specs.Images.{Named, Entry, ruleIn, rulesIn, listsIn, total, countIn, widthIn, entriesOf, listsOf, rulesBytes, bytesOf}
 use Rattle.image.specs.Checks.{entryCheck, entriesCheck, headCheck, contentsCheck, imageCheck}
 use Rattle.image.specs.Places.{placeIn, placeAt, pickPlace, placeOf, listWith}
 use Rattle.image.specs.Replies.{afterwards}
 use Rattle.image.specs.Calls.{idCheck, bodyOf, careOf, valueOf, decisionOf}
 use Rattle.image.specs.Writing.{cut, given, imageLength, writeCheck, writeReply, imaged, Written}
-use Rattle.image.proofs.BareLaws.{bare-first, bare-image, bare-head, bare-contents, bare-entry}
+use Rattle.image.proofs.BareLaws.{bare-first, bare-image, bare-contents, bare-entry}
 use Rattle.image.proofs.HeadLaws.{entry-facts}
-use Rattle.image.proofs.StepLaws.{entries-total}
 use Rattle.image.proofs.SeekLaws.{image-facts, place-fits}
 use Rattle.image.proofs.WriteLaws.{write-facts}
 use Rattle.image.proofs.BackLaws.{AreBytes, bytes-drop, rules-back, read-write}
-use Rattle.image.proofs.AgainLaws.{Carried, allRules, carried-passes, carried-back}
+use Rattle.image.proofs.AgainLaws.{Carried, carried-passes, carried-back}
 use Rattle.image.proofs.CarryLaws.{facts-carried, image-carried, ids-fit, namesOf, countsOf, joined, rules-columns, cut-joined, length-names, length-joined, length-column, carried-writes}
 
 -- ids as they are lent: two bytes each

@@ -1,10 +1,9 @@
 -- Each call's promise leaves no second result: two results that both meet it are equal, and so are the lent slices afterwards.
-use mathlib.Core.Path.{_≡_, refl, sym, ap, ap₂, _∙_}
+use mathlib.Core.Path.{_≡_, sym, ap, ap₂, _∙_}
 use mathlib.Core.List.{List, [], _∷_}
 use Prim.Native.Nat.{ℕ}
-use Rattle.rules.specs.declared.Refusal.{Refusal}
 use Rattle.rules.specs.declared.Verdict.{Verdict}
-use Rattle.rules.specs.Replies.{Reply, Gives, Refuses, verdictReply, refusalReply}
+use Rattle.rules.specs.Replies.{Gives, verdictReply}
 use Rattle.rules.proofs.ReplyLaws.{gives-refuses, one-refusal, one-verdict}
 use Rattle.image.specs.declared.Outcome.{Outcome}
 use Rattle.image.specs.declared.Listed.{Listed}

@@ -1,25 +1,25 @@
 -- What the writer's three parts write together is the image of the lists given.
-use mathlib.Core.Path.{_≡_, refl, sym, ap, ap₂, _∙_}
+use mathlib.Core.Path.{_≡_, refl, sym, ap, _∙_}
 use mathlib.Core.List.{List, [], _∷_, _++_, append-assoc}
-use Prim.Native.Nat.{ℕ, zero, suc, _+_, _-_, _*_, _≤_, _<_}
+use Prim.Native.Nat.{ℕ, suc, _+_, _-_, _*_, _≤_}
 use native.Mathlib.Omega.{arith}
 use lib.Dec.{leb}
-use mathlib.Core.Bool.{Bool, true, false}
+use mathlib.Core.Bool.{true}
 use lib.ListN.{length, take, drop, length-append, length-drop, take-append-drop}
-use lib.Seq.{length-take-le, take-all}
+use lib.Seq.{length-take-le}
 use borrow.Author.Tests.{leb-true}
 use Rattle.rules.specs.declared.Rule.{Rule}
 use Rattle.rules.specs.declared.Refusal.{Refusal}
 use Rattle.rules.specs.declared.Verdict.{Verdict}
-use Rattle.rules.specs.Replies.{Reply, Gives, Refuses, passed, need, _then_, verdictReply, refusalReply}
+use Rattle.rules.specs.Replies.{Reply, Gives, passed, need, _then_, verdictReply, refusalReply}
 use Rattle.rules.specs.Checks.{roomCheck}
-use Rattle.rules.specs.Slices.{rulesOf, Lent}
-use Rattle.rules.proofs.ReplyLaws.{then-next, fine-next, refused-stop, need-then, need-passed, then-second}
+use Rattle.rules.specs.Slices.{rulesOf}
+use Rattle.rules.proofs.ReplyLaws.{fine-next, refused-stop, need-then, then-second}
 use Rattle.rules.proofs.SliceLaws.{rules-length}
 use Rattle.image.specs.declared.Outcome.{Outcome}
-use Rattle.image.specs.Images.{Entry, Named, entryWith, entriesFor, ruleBytes, rulesBytes, bodiesBytes, contentsBytes, bytesOf}
+use Rattle.image.specs.Images.{Entry, entryWith, entriesFor, ruleBytes, rulesBytes, bodiesBytes, contentsBytes, bytesOf}
 use Rattle.image.specs.Checks.{listsCheck}
-use Rattle.image.specs.Replies.{outcomeReply, afterwards}
+use Rattle.image.specs.Replies.{afterwards}
 use Rattle.image.specs.Writing.{sumOf, cut, given, namesCheck, imageLength, shapeCheck, writeCheck, writeReply, imaged, Written}
 use Rattle.image.specs.Putting.{over, entriesGiven}
 use Rattle.image.proofs.BareLaws.{bare-first, bare-lists}

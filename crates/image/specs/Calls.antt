@@ -52,7 +52,8 @@ valueOf x = x .value
 abbrev pub decisionOf : Rule → ℕ
 decisionOf x = x .decision
 
--- Slots that held c, after one field of each rule went into them from the first on: later places are as they were.
+-- What a slice that held c holds after one field of each rule went into it from the first place on: later places are
+-- as they were.
 abbrev pub filled : (Rule → ℕ) → List Rule → List ℕ → List ℕ
 filled f rs c = map f rs ++ drop (length rs) c
 

@@ -6,6 +6,7 @@ ghost use Rattle.image.specs.Bytes.{num};
 ghost use Rattle.image.specs.Images.{ruleIn};
 use rules::Rule;
 
+// A byte, and two bytes, as numbers that sums and products have room in.
 pub(crate) fn wide(x: u8) -> usize
     ensures { λ r. ⌜ (r ≡ x) × (r < 256) ⌝ }
 {

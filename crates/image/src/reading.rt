@@ -2,7 +2,7 @@
 ghost use mathlib.Core.Path.{_≡_};
 ghost use Prim.Native.Nat.{_+_, _*_, _≤_};
 ghost use lib.ListN.{length, drop};
-ghost use Rattle.rules.specs.Replies.{verdictReply, Refuses};
+ghost use Rattle.rules.specs.Replies.{Refuses};
 ghost use Rattle.rules.specs.Slices.{Lent};
 ghost use Rattle.image.specs.Images.{rulesIn};
 ghost use Rattle.image.specs.Calls.{ReadOut};

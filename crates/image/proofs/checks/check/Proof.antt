@@ -1,8 +1,5 @@
-use mathlib.Core.Path.{_≡_, refl, ap, ap₂, sym, _∙_}
-use Prim.Native.Nat.{ℕ, _+_, _-_, _*_, _≤_, _<_}
-use native.Mathlib.Omega.{arith}
-use lib.ListN.{length, drop}
-use denote.Ref.{now}
+use mathlib.Core.Path.{ap, sym, _∙_}
+use Prim.Native.Nat.{_-_}
 use Rattle.image.proofs.StepLaws.{image-head, image-contents, image-bodies, contents-total}
 use Rattle.image.proofs.HeadLaws.{head-facts}
 use Rattle.rules.specs.Replies.{verdictReply}

@@ -1,7 +1,5 @@
-use mathlib.Core.Path.{_≡_, refl, ap, ap₂, sym, _∙_}
-use Prim.Native.Nat.{ℕ, _+_, _-_, _*_, _≤_, _<_}
-use native.Mathlib.Omega.{arith}
-use lib.ListN.{length, drop}
+use mathlib.Core.Path.{sym, _∙_}
+use Prim.Native.Nat.{_-_}
 use denote.Ref.{now}
 use Rattle.image.proofs.NumberLaws.{num-in}
 use Rattle.image.proofs.HeadLaws.{entry-same}

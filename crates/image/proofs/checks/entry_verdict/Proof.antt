@@ -1,8 +1,6 @@
-use mathlib.Core.Path.{_≡_, refl, ap, ap₂, sym, _∙_}
-use Prim.Native.Nat.{ℕ, _+_, _-_, _*_, _≤_, _<_}
+use mathlib.Core.Path.{_∙_}
+use Prim.Native.Nat.{_-_}
 use native.Mathlib.Omega.{arith}
-use lib.ListN.{length, drop}
-use denote.Ref.{now}
 use Rattle.image.proofs.HeadLaws.{entry-1, entry-2, entry-3, entry-4, entry-fine}
 use borrow.Author.Needs.{needs}
 use Rattle.image.proofs.checks.entry_verdict.Statement.{statement}

@@ -1,8 +1,6 @@
-use mathlib.Core.Path.{_≡_, refl, ap, ap₂, sym, _∙_}
-use Prim.Native.Nat.{ℕ, _+_, _-_, _*_, _≤_, _<_}
+use mathlib.Core.Path.{_∙_}
+use Prim.Native.Nat.{_-_}
 use native.Mathlib.Omega.{arith}
-use lib.ListN.{length, drop}
-use denote.Ref.{now}
 use Rattle.image.proofs.HeadLaws.{head-1, head-2, head-3, head-4, head-5, head-6, head-7, head-8, head-9, head-fine}
 use borrow.Author.Needs.{needs}
 use Rattle.image.proofs.checks.head.Statement.{statement}

@@ -1,8 +1,7 @@
-use mathlib.Core.Path.{_≡_, refl, ap, ap₂, sym, _∙_}
-use Prim.Native.Nat.{ℕ, _+_, _-_, _*_, _≤_, _<_}
+use mathlib.Core.Path.{_≡_, refl, ap, sym, _∙_}
+use Prim.Native.Nat.{_+_, _-_, _*_, _≤_}
 use native.Mathlib.Omega.{arith}
 use lib.ListN.{length, drop}
-use denote.Ref.{now}
 use Rattle.image.proofs.StepLaws.{rules-stop, rules-pass, rules-end, in-width}
 use Rattle.rules.specs.Checks.{ruleCheck, rulesCheck}
 use Rattle.image.specs.Images.{rulesIn}

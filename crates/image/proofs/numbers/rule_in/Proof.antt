@@ -1,7 +1,4 @@
-use mathlib.Core.Path.{_≡_, refl, ap, ap₂, sym, _∙_}
-use Prim.Native.Nat.{ℕ, _+_, _-_, _*_, _≤_, _<_}
-use native.Mathlib.Omega.{arith}
-use lib.ListN.{length, drop}
+use Prim.Native.Nat.{_-_}
 use denote.Ref.{now}
 use Rattle.image.proofs.NumberLaws.{rule-from}
 use borrow.Author.Needs.{needs}

@@ -1,7 +1,6 @@
-use mathlib.Core.Path.{_≡_, refl, ap, ap₂, sym, _∙_}
-use Prim.Native.Nat.{ℕ, _+_, _-_, _*_, _≤_, _<_}
+use mathlib.Core.Path.{ap₂, sym, _∙_}
+use Prim.Native.Nat.{ℕ, _+_, _-_, _*_}
 use native.Mathlib.Omega.{arith}
-use lib.ListN.{length, drop}
 use denote.Ref.{now}
 use Rattle.image.proofs.NumberLaws.{num-two}
 use borrow.Author.Needs.{needs}

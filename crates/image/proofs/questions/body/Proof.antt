@@ -1,7 +1,5 @@
-use mathlib.Core.Path.{_≡_, refl, ap, ap₂, sym, _∙_}
-use Prim.Native.Nat.{ℕ, _+_, _-_, _*_, _≤_, _<_}
-use native.Mathlib.Omega.{arith}
-use lib.ListN.{length, drop}
+use mathlib.Core.Path.{ap, _∙_}
+use Prim.Native.Nat.{ℕ, _-_, _*_}
 use denote.Ref.{now}
 use native.Mathlib.Nat.{add-sub-cancel-left}
 use Rattle.image.specs.Bytes.{part}

@@ -1,8 +1,5 @@
-use mathlib.Core.Path.{_≡_, refl, ap, ap₂, sym, _∙_}
-use Prim.Native.Nat.{ℕ, _+_, _-_, _*_, _≤_, _<_}
-use native.Mathlib.Omega.{arith}
-use lib.ListN.{length, drop}
-use denote.Ref.{now}
+use mathlib.Core.Path.{_∙_}
+use Prim.Native.Nat.{_-_}
 use Rattle.image.proofs.SeekLaws.{id-image, id-found, id-none, fine-facts}
 use borrow.Author.Needs.{needs}
 use Rattle.image.proofs.questions.body_refusal.Statement.{statement}

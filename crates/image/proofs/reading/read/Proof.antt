@@ -1,8 +1,6 @@
-use mathlib.Core.Path.{_≡_, refl, ap, ap₂, sym, _∙_}
-use Prim.Native.Nat.{ℕ, _+_, _-_, _*_, _≤_, _<_}
+use mathlib.Core.Path.{refl}
+use Prim.Native.Nat.{_-_}
 use native.Mathlib.Omega.{arith}
-use lib.ListN.{length, drop}
-use denote.Ref.{now}
 use Rattle.image.proofs.SeekLaws.{id-facts}
 use Rattle.image.proofs.AskLaws.{read-refuses, read-gives, read-id, read-values, read-decisions, read-room, read-told, list-at}
 use borrow.Author.Needs.{needs}

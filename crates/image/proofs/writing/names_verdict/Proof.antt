@@ -1,8 +1,7 @@
-use mathlib.Core.Path.{_≡_, refl, ap, ap₂, sym, _∙_}
-use Prim.Native.Nat.{ℕ, _+_, _-_, _*_, _≤_, _<_}
+use mathlib.Core.Path.{_≡_, refl, sym, _∙_}
+use Prim.Native.Nat.{_+_, _-_, _≤_}
 use native.Mathlib.Omega.{arith}
 use lib.ListN.{length, drop}
-use denote.Ref.{now}
 use Rattle.image.proofs.GivenLaws.{names-thirteen, names-three, names-pass, names-end}
 use Rattle.image.specs.Writing.{namesCheck}
 use borrow.Author.Needs.{needs}

@@ -1,8 +1,6 @@
-use mathlib.Core.Path.{_≡_, refl, ap, ap₂, sym, _∙_}
-use Prim.Native.Nat.{ℕ, _+_, _-_, _*_, _≤_, _<_}
+use mathlib.Core.Path.{_∙_}
+use Prim.Native.Nat.{_-_}
 use native.Mathlib.Omega.{arith}
-use lib.ListN.{length, drop}
-use denote.Ref.{now}
 use Rattle.image.proofs.GivenLaws.{shape-low, shape-high, shape-given, shape-none, shape-many, shape-fine}
 use borrow.Author.Needs.{needs}
 use Rattle.image.proofs.writing.shape_verdict.Statement.{statement}

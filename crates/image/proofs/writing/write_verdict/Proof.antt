@@ -1,8 +1,6 @@
-use mathlib.Core.Path.{_≡_, refl, ap, ap₂, sym, _∙_}
-use Prim.Native.Nat.{ℕ, _+_, _-_, _*_, _≤_, _<_}
+use mathlib.Core.Path.{ap, sym, _∙_}
+use Prim.Native.Nat.{_-_}
 use native.Mathlib.Omega.{arith}
-use lib.ListN.{length, drop}
-use denote.Ref.{now}
 use Rattle.image.proofs.GivenLaws.{shape-facts, names-sum, write-shape, write-names, write-lists, write-ten, write-seven, write-fine}
 use Rattle.rules.specs.Replies.{verdictReply}
 use borrow.Author.Needs.{needs}
