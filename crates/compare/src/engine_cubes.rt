@@ -226,24 +226,12 @@ pub(crate) fn differs(
         value: value,
     };
     let low = differs(oc, ov, od, &o, om, nc, nv, nd, &n, nm, zero, true);
-    match low {
-        Found::At(h) => Found::At(h),
-        Found::Nothing => differs(
-            oc,
-            ov,
-            od,
-            &o,
-            om,
-            nc,
-            nv,
-            nd,
-            &n,
-            nm,
-            Cube {
-                care: care | p,
-                value: value | p,
-            },
-            false,
-        ),
-    }
+    let Found::Nothing = low else {
+        return low;
+    };
+    let one = Cube {
+        care: care | p,
+        value: value | p,
+    };
+    differs(oc, ov, od, &o, om, nc, nv, nd, &n, nm, one, false)
 }
