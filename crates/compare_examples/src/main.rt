@@ -9,6 +9,7 @@ fn main() {
     runs::narrow();
     runs::borders();
     runs::wide();
+    runs::scattered();
     portions::room_of_one();
     portions::room_of_two();
     refusals::lists();
