@@ -582,7 +582,7 @@ def image(make):
 def bad_writing(make, width, counts, ids, rules):
     counts, ids = counts[:], ids[:]
     fault = make.random.randrange(7)
-    k = make.random.randrange(len(ids))
+    k = make.random.randrange(min(len(ids), len(counts)))
     if fault == 0:
         width = make.bad_width(width)
     elif fault == 1:
@@ -611,7 +611,7 @@ def large_writing(make):
 def write(make):
     width, counts, ids, rules = large_writing(make) if make.chance(1) and make.chance(50) else good_image(make)
     for _ in range(make.pick(0, 0, 1, 2)):
-        if ids:
+        if ids and counts:
             width, counts, ids, rules = bad_writing(make, width, counts, ids, rules)
     size = model.HEAD + model.ENTRY * len(ids) + model.RULE * len(rules[0])
     (length,) = make.lengths(1, size)

@@ -1,22 +1,21 @@
--- Laws of blocks of headers: a block as a cube, the way down to the least difference in it, and one block after the other.
+-- Laws of blocks of headers: a block as a cube, the way down to the least difference in it, and the blocks after a header.
 use Prim.Native.Nat.{ℕ, zero, suc, _+_, _-_, _*_, _/_, _%_, _^_, _≤_, _<_}
 use mathlib.Core.Path.{_≡_, refl, sym, ap, ap₂, _∙_, subst}
 use mathlib.Core.List.{List}
 use mathlib.Core.Logic.{⊎-elim}
 use native.Mathlib.Omega.{arith}
-use native.Mathlib.Nat.{mod-lt, mod-eq-of-lt, mod-one, mul-le-mul-right, mul-assoc, pow-suc, div-div-eq-div-mul, mul-comm}
+use native.Mathlib.Nat.{mod-lt, mul-le-mul-right, mul-assoc, pow-suc, mul-comm, mul-mod-left, add-mod-right, div-eq-of-lt}
 use native.Mathlib.Numerals.{add-one}
 use native.Mathlib.Decide.{decLt}
 use lib.Bits.{bitAnd, and-high, and-mask}
-use lib.Pow.{shr-lt, shr-mod, shr-shr, shl-shr, split, high, pow-pos, pow-add, mod-pow-add, mod-mod-pow}
-use lib.Count.{trailingZeros, under}
+use lib.Pow.{shr-lt, shr-mod, shr-shr, shl-shr, split, high, pow-pos, pow-add}
 use Rattle.rules.specs.Words.{bit}
 use Rattle.rules.proofs.BitLaws.{bit<2, zero-or-one}
 use Rattle.compare.specs.declared.engine.Found.{Found}
 use Rattle.compare.specs.declared.engine.Found.the-variants.{At, Nothing}
 use Rattle.compare.specs.Search.{LeastIn}
 use Rattle.compare.specs.EngineSets.{answerOf}
-use Rattle.compare.specs.EngineCubes.{Alike, Decided, Same, Block, Starts, AnswersIn, Nearer}
+use Rattle.compare.specs.EngineCubes.{Alike, Decided, Same, Block, AnswersIn, Nearer}
 
 -- ---- dividing by powers of two
 
@@ -245,112 +244,161 @@ module _ (at k o : ℕ) (B : Block at k) (is : o + 1 ≡ 2 ^ k) where
       let e : x / 2 ^ k ≡ at / 2 ^ k = in-block (at / 2 ^ k) x k (omega (arith, at-base)) (omega (arith, at-base)) in
       in-cube k o (B .few) is x at (omega (arith, B .fits)) e ∙ at-base
 
-  module _ (f g f′ g′ : ℕ → ℕ) (F : (x : ℕ) → bitAnd x (18446744073709551615 - o) ≡ at → f′ x ≡ f x)
-      (G : (x : ℕ) → bitAnd x (18446744073709551615 - o) ≡ at → g′ x ≡ g x) where
-    found-in : (h r : ℕ) → h < 2 ^ 64 → bitAnd h (18446744073709551615 - o) ≡ at → Nearer f′ g′ h k r 0 → LeastIn f g at (at + 2 ^ k) (At r)
+  module _ (f g : ℕ → ℕ) where
+    found-in : (h r : ℕ) → h < 2 ^ 64 → bitAnd h (18446744073709551615 - o) ≡ at → Nearer f g h k r 0 → LeastIn f g at (at + 2 ^ k) (At r)
     unfolding LeastIn
     found-in h r l i N =
         let hb : base h k ≡ at = sym (upper k o (B .few) is h l) ∙ i in
         let rb : base r k ≡ at = ap (λ (x : ℕ). x * 2 ^ k) (N .block) ∙ hb in
-        let rl : at ≤ r = omega (arith, base-le r k) in
-        let ru : r < at + 2 ^ k = omega (arith, below-next r k) in
-        let c = block-in r rl ru in
-        let whole : base r 0 ≡ r = omega (arith, split r 0) in (
-          rl,
-          ru,
-          (λ e. N .differ (F r c ∙ e ∙ sym (G r c))),
-          λ y a u. let d = block-in y a (omega arith) in sym (F y d) ∙ N .same y (omega arith) (omega arith) ∙ G y d,
-        )
+        let whole : base r 0 ≡ r = omega (arith, split r 0) in
+        (omega (arith, base-le r k), omega (arith, below-next r k), N .differ, λ y a u. N .same y (omega arith) (omega arith))
 
-    none-in : Decided f′ g′ (18446744073709551615 - o) at Nothing → LeastIn f g at (at + 2 ^ k) Nothing
+    none-in : Decided f g (18446744073709551615 - o) at Nothing → LeastIn f g at (at + 2 ^ k) Nothing
     unfolding LeastIn Decided Alike
-    none-in d y a u = let c = block-in y a u in sym (F y c) ∙ d y (omega (arith, B .fits)) c ∙ G y c
+    none-in d y a u = d y (omega (arith, B .fits)) (block-in y a u)
 
-    differ-in : (h : ℕ) → Decided f′ g′ (18446744073709551615 - o) at (At h) → (bitAnd h (18446744073709551615 - o) ≡ at) × (f′ h ≡ g′ h → ⊥)
+    differ-in : (h : ℕ) → Decided f g (18446744073709551615 - o) at (At h) → (bitAnd h (18446744073709551615 - o) ≡ at) × (f h ≡ g h → ⊥)
     unfolding Decided
     differ-in h d = d
 
-    module _ (r : Found) (d : Decided f′ g′ (18446744073709551615 - o) at r) where
-      pub least-differ : (h h′ : ℕ) → r ≡ At h → h′ ≡ h → f′ h′ ≡ g′ h′ → ⊥
+    module _ (r : Found) (d : Decided f g (18446744073709551615 - o) at r) where
+      pub least-differ : (h h′ : ℕ) → r ≡ At h → h′ ≡ h → f h′ ≡ g h′ → ⊥
       least-differ h h′ q e p = differ-in h (rw q at d) .1 (rw e at p)
 
-      pub least-at : (h h′ x : ℕ) → r ≡ At h → h′ ≡ h → h < 2 ^ 64 → Nearer f′ g′ h′ k x 0 → LeastIn f g at (at + 2 ^ k) (At x)
+      pub least-at : (h h′ x : ℕ) → r ≡ At h → h′ ≡ h → h < 2 ^ 64 → Nearer f g h′ k x 0 → LeastIn f g at (at + 2 ^ k) (At x)
       least-at h h′ x q e l N = found-in h x l (differ-in h (rw q at d) .0) (rw e at N)
 
       pub least-none : r ≡ Nothing → LeastIn f g at (at + 2 ^ k) Nothing
       least-none q = none-in (rw q at d)
 
--- ---- the longest block at a header
+-- ---- least differences of one part after the other
 
-zeros-even : (k n : ℕ) → n % 2 ^ trailingZeros k n ≡ 0
-unfolding trailingZeros
-zeros-even zero n = mod-one n
-zeros-even (suc k) n = go (n % 2) refl (zeros-even k (n / 2))
-  where
-    go : (d : ℕ) → n % 2 ≡ d → n / 2 % 2 ^ trailingZeros k (n / 2) ≡ 0 → n % 2 ^ under d (trailingZeros k (n / 2)) ≡ 0
-    go zero e ih =
-        ap (λ (x : ℕ). n % 2 ^ x) (sym (add-one (trailingZeros k (n / 2))))
-        ∙ mod-pow-add n (trailingZeros k (n / 2)) 1
-        ∙ ap (λ (x : ℕ). x * 2 + n % 2) ih
-        ∙ omega arith
-    go (suc d) e ih = mod-one n
-
-module _ (at width : ℕ) (l : at < 2 ^ width) where
-  starts : (k : ℕ) → k ≤ width → at % 2 ^ k ≡ 0 → Starts at width k
-  starts k u e =
-      let q : width ≡ width - k + k = omega arith in
-      let d : at / 2 ^ k < 2 ^ (width - k) = shr-lt (width - k) k (subst (λ (x : ℕ). at < 2 ^ x) q l) in
-      let m : suc (at / 2 ^ k) * 2 ^ k ≤ 2 ^ (width - k) * 2 ^ k = mul-le-mul-right (2 ^ k) d in
-      let p : 2 ^ width ≡ 2 ^ (width - k) * 2 ^ k = ap (λ (x : ℕ). 2 ^ x) q ∙ pow-add 2 (width - k) k in
-      let s = split at k in
-      record { few = u; even = e; fits = omega arith }
-
-  pub starts-low : trailingZeros 64 at < width → Starts at width (trailingZeros 64 at)
-  starts-low u = starts (trailingZeros 64 at) (omega arith) (zeros-even 64 at)
-
-  pub starts-all : width ≤ trailingZeros 64 at → Starts at width width
-  starts-all u =
-      let q : trailingZeros 64 at ≡ trailingZeros 64 at - width + width = omega arith in
-      let z : at % 2 ^ (trailingZeros 64 at - width + width) ≡ 0 = subst (λ (x : ℕ). at % 2 ^ x ≡ 0) q (zeros-even 64 at) in
-      starts width (omega arith) (sym (mod-mod-pow at (trailingZeros 64 at - width) width) ∙ ap (λ (x : ℕ). x % 2 ^ width) z ∙ mod-eq-of-lt (pow-pos width))
-
--- ---- the blocks from lo on
-
-pub record Swept (f g : ℕ → ℕ) (width lo at : ℕ) : Type 0 where
-  pub low : lo ≤ at
-  pub below : at < 2 ^ width
-  pub same : Same f g lo at
-
-pub wide-block : (at width k : ℕ) → width ≤ 64 → 2 ^ width ≤ 2 ^ 64 → Starts at width k → Block at k
-wide-block at width k few p S = record { few = omega (arith, S .few); even = S .even; fits = omega (arith, S .fits) }
-
-join : (f g : ℕ → ℕ) (a b c : ℕ) → Same f g a b → Same f g b c → Same f g a c
-join f g a b c p q h l u = go (decLt h b)
-  where
-    go : Dec (h < b) → f h ≡ g h
-    go (yes x) = p h l x
-    go (no x) = q h (omega arith) u
-
-module _ (f g : ℕ → ℕ) (width lo at k : ℕ) (W : Swept f g width lo at) (S : Starts at width k) (r : Found) (L : LeastIn f g at (at + 2 ^ k) r) where
-  found-here : (h : ℕ) → LeastIn f g at (at + 2 ^ k) (At h) → LeastIn f g lo (2 ^ width) (At h)
+module _ (f g : ℕ → ℕ) (lo top : ℕ) where
+  -- other answers that are the same there
+  pub least-same : (f′ g′ : ℕ → ℕ) → ((x : ℕ) → lo ≤ x → x < top → f′ x ≡ f x) → ((x : ℕ) → lo ≤ x → x < top → g′ x ≡ g x)
+      → (r : Found) → LeastIn f′ g′ lo top r → LeastIn f g lo top r
   unfolding LeastIn
-  found-here h M =
-      (omega (arith, M .0, W .low), omega (arith, M .1, S .fits), M .2, join f g lo at h (W .same) (M .3))
+  least-same f′ g′ F G (At h) L = (
+    L .0,
+    L .1,
+    (λ e. L .2 (F h (L .0) (L .1) ∙ e ∙ sym (G h (L .0) (L .1)))),
+    λ y a u. let t : y < top = omega (arith, L .1) in sym (F y a t) ∙ L .3 y a u ∙ G y a t,
+  )
+  least-same f′ g′ F G Nothing L = λ y a u. sym (F y a u) ∙ L y a u ∙ G y a u
 
-  pub swept-found : {h : ℕ} → r ≡ At h → LeastIn f g lo (2 ^ width) r
-  swept-found {h} q = rw q (found-here h (rw q at L))
-
-  none-here : LeastIn f g at (at + 2 ^ k) Nothing → Same f g at (at + 2 ^ k)
+  -- one that is found stays the least where more headers follow
+  least-more : (top′ h : ℕ) → top ≤ top′ → LeastIn f g lo top (At h) → LeastIn f g lo top′ (At h)
   unfolding LeastIn
-  none-here M = M
+  least-more top′ h l L = (L .0, omega (arith, L .1), L .2, L .3)
 
-  pub swept-next : r ≡ Nothing → (at′ : ℕ) → at′ ≡ at + 2 ^ k → (at′ ≡ 2 ^ width → ⊥) → Swept f g width lo at′
-  swept-next q at′ e n = record {
-    low = omega (arith, W .low);
-    below = omega (arith, S .fits);
-    same = join f g lo at at′ (W .same) (λ h l u. none-here (rw q at L) h l (omega arith));
+  pub least-found : (top′ : ℕ) (r : Found) → top ≤ top′ → LeastIn f g lo top r → {h : ℕ} → r ≡ At h → LeastIn f g lo top′ r
+  least-found top′ r l L {h} q = rw q (least-more top′ h l (rw q at L))
+
+  -- nothing up to a header, and what comes from it on
+  least-join : (top′ : ℕ) → LeastIn f g lo top Nothing → (r : Found) → lo ≤ top → LeastIn f g top top′ r → LeastIn f g lo top′ r
+  unfolding LeastIn
+  least-join top′ N (At h) l L = (omega (arith, L .0), L .1, L .2, λ y a u. go y a u (decLt y top))
+    where
+      go : (y : ℕ) → lo ≤ y → y < h → Dec (y < top) → f y ≡ g y
+      go y a u (yes b) = N y a b
+      go y a u (no b) = L .3 y (omega arith) u
+  least-join top′ N Nothing l L = λ y a u. go y a u (decLt y top)
+    where
+      go : (y : ℕ) → lo ≤ y → y < top′ → Dec (y < top) → f y ≡ g y
+      go y a u (yes b) = N y a b
+      go y a u (no b) = L y (omega arith) u
+
+-- ---- the block that lo lies in
+
+-- a block of 2^k headers ends within the words of 64 bits
+block-fits : (lo k : ℕ) → lo < 2 ^ 64 → k ≤ 64 → base lo k + 2 ^ k ≤ 2 ^ 64
+block-fits lo k l u =
+    let q : 64 ≡ 64 - k + k = omega arith in
+    let d : lo / 2 ^ k < 2 ^ (64 - k) = shr-lt (64 - k) k (subst (λ (x : ℕ). lo < 2 ^ x) q l) in
+    let m : suc (lo / 2 ^ k) * 2 ^ k ≤ 2 ^ (64 - k) * 2 ^ k = mul-le-mul-right (2 ^ k) d in
+    let p : 2 ^ 64 ≡ 2 ^ (64 - k) * 2 ^ k = ap (λ (x : ℕ). 2 ^ x) q ∙ pow-add 2 (64 - k) k in
+    omega arith
+
+module _ (lo k o : ℕ) (small : lo < 2 ^ 64) (few : k ≤ 64) (is : o + 1 ≡ 2 ^ k) where
+  -- where it starts, as the code computes it
+  abbrev begin : ℕ
+  begin = bitAnd lo (18446744073709551615 - o)
+
+  begin-is : begin ≡ base lo k
+  begin-is = upper k o few is lo small
+
+  -- a block of one header starts at it
+  pub not-one : (lo ≡ begin → ⊥) → zero < k
+  not-one n = go (decLt zero k)
+    where
+      go : Dec (zero < k) → zero < k
+      go (yes l) = l
+      go (no x) =
+          let e : k ≡ 0 = omega arith in
+          absurd (n (sym (begin-is ∙ ap (base lo) e ∙ omega (arith, split lo 0))))
+
+  near : (x : ℕ) → base lo k ≤ x → x < base lo k + 2 ^ k → bitAnd x (18446744073709551615 - o) ≡ begin
+  near x a u =
+      let e : x / 2 ^ k ≡ lo / 2 ^ k = in-block (lo / 2 ^ k) x k a u in
+      in-cube k o few is x lo (omega (arith, block-fits lo k small few)) e ∙ sym begin-is
+
+  -- lo starts the block
+  pub whole-block : lo ≡ begin → Block lo k
+  whole-block e = record {
+    few = few;
+    even = omega (arith, split lo k, begin-is);
+    fits = omega (arith, block-fits lo k small few, begin-is);
   }
 
-  pub swept-end : r ≡ Nothing → at + 2 ^ k ≡ 2 ^ width → LeastIn f g lo (2 ^ width) Nothing
-  unfolding LeastIn
-  swept-end q e = join f g lo at (2 ^ width) (W .same) (λ h l u. none-here (rw q at L) h l (omega arith))
+  module _ (f g f′ g′ : ℕ → ℕ) (F : (x : ℕ) → bitAnd x (18446744073709551615 - o) ≡ begin → f′ x ≡ f x)
+      (G : (x : ℕ) → bitAnd x (18446744073709551615 - o) ≡ begin → g′ x ≡ g x) where
+    -- answers of the narrowed sets from lo on in the block are those of the sets
+    block-same : (r : Found) → LeastIn f′ g′ lo (base lo k + 2 ^ k) r → LeastIn f g lo (base lo k + 2 ^ k) r
+    block-same r L =
+        least-same f g lo (base lo k + 2 ^ k) f′ g′
+        (λ x a u. F x (near x (omega (arith, base-le lo k)) u)) (λ x a u. G x (near x (omega (arith, base-le lo k)) u)) r L
+
+    pub after-whole : lo ≡ begin → (r : Found) → LeastIn f′ g′ lo (lo + 2 ^ k) r → LeastIn f g lo (base lo k + 2 ^ k) r
+    after-whole e r L = block-same r (subst (λ (x : ℕ). LeastIn f′ g′ lo (x + 2 ^ k) r) (e ∙ begin-is) L)
+
+    module _ (j : ℕ) (next : j + 1 ≡ k) (r : Found) (L : LeastIn f′ g′ lo (base lo j + 2 ^ j) r) where
+      ends : base lo k + 2 ^ k ≡ base lo (j + 1) + 2 ^ j + 2 ^ j
+      ends = ap (λ (x : ℕ). base lo x + 2 ^ x) (sym next) ∙ omega (arith, twice j)
+
+      half-le : base lo j ≤ base lo (j + 1) + 2 ^ j
+      half-le =
+          ⊎-elim (λ z. omega (arith, base-low lo j z)) (λ z. omega (arith, base-high lo j z)) (zero-or-one (bit lo j) (bit<2 lo j))
+
+      pub after-found : {h : ℕ} → r ≡ At h → LeastIn f g lo (base lo k + 2 ^ k) r
+      after-found q = block-same r (least-found f′ g′ lo (base lo j + 2 ^ j) (base lo k + 2 ^ k) r (omega (arith, ends, half-le)) L q)
+
+      pub after-one : r ≡ Nothing → bit lo j ≡ 1 → LeastIn f g lo (base lo k + 2 ^ k) Nothing
+      after-one q b =
+          let e : base lo j + 2 ^ j ≡ base lo k + 2 ^ k = omega (arith, ends, base-high lo j b) in
+          block-same Nothing (subst (λ (x : ℕ). LeastIn f′ g′ lo x Nothing) e (rw q at L))
+
+      -- the high half of the block
+      module _ (p : ℕ) (power : p ≡ 2 ^ j) (b : bit lo j ≡ 0) where
+        high-is : begin + p ≡ base lo j + 2 ^ j
+        high-is = ap₂ _+_ (begin-is ∙ ap (base lo) (sym next) ∙ sym (base-low lo j b)) power
+
+        pub high-block : Block (begin + p) j
+        high-block = record {
+          few = omega arith;
+          even = ap (λ (x : ℕ). x % 2 ^ j) high-is ∙ add-mod-right (base lo j) (2 ^ j) ∙ mul-mod-left (lo / 2 ^ j) (2 ^ j);
+          fits = omega (arith, high-is, ends, base-low lo j b, block-fits lo k small few);
+        }
+
+        pub after-high : r ≡ Nothing → (r′ : Found) → LeastIn f′ g′ (begin + p) (begin + p + 2 ^ j) r′ → LeastIn f g lo (base lo k + 2 ^ k) r′
+        after-high q r′ M =
+            let e : begin + p + 2 ^ j ≡ base lo k + 2 ^ k = omega (arith, high-is, ends, base-low lo j b) in
+            block-same r′ (least-join f′ g′ lo (base lo j + 2 ^ j) (base lo k + 2 ^ k) (rw q at L) r′ (omega (arith, below-next lo j))
+            (subst (λ (x : ℕ). LeastIn f′ g′ (base lo j + 2 ^ j) x r′) e (subst (λ (x : ℕ). LeastIn f′ g′ x (begin + p + 2 ^ j) r′) high-is M)))
+
+-- ---- the headers of a width
+
+pub least-width : (f g f′ g′ : ℕ → ℕ) (lo width : ℕ) → lo < 2 ^ width → ((x : ℕ) → f′ x ≡ f x) → ((x : ℕ) → g′ x ≡ g x)
+    → (r : Found) → LeastIn f′ g′ lo (base lo width + 2 ^ width) r → LeastIn f g lo (2 ^ width) r
+least-width f g f′ g′ lo width l F G r L =
+    let e : base lo width + 2 ^ width ≡ 2 ^ width = ap (λ (x : ℕ). x * 2 ^ width + 2 ^ width) (div-eq-of-lt l) ∙ omega arith in
+    least-same f g lo (2 ^ width) f′ g′ (λ x a u. F x) (λ x a u. G x) r (subst (λ (x : ℕ). LeastIn f′ g′ lo x r) e L)

@@ -110,8 +110,11 @@ module _ (f g f′ g′ : ℕ → ℕ) (care value : ℕ)
 
     -- the same, of the place as the code computes it, and of the low half's result as a match tells it
     module _ (p : ℕ) (e : p ≡ 2 ^ k) (r : Found) (low : Decided f′ g′ (bitOr care p) value r) where
-      pub say-low : (h : ℕ) → r ≡ At h → Decided f g care value (At h)
+      say-low : (h : ℕ) → r ≡ At h → Decided f g care value (At h)
       say-low h q = low-at h (rw e at (rw q at low))
+
+      pub say-found : {h : ℕ} → r ≡ At h → Decided f g care value r
+      say-found {h} q = rw q (say-low h q)
 
       pub say-both : r ≡ Nothing → (r′ : Found) → Decided f′ g′ (bitOr care p) (bitOr value p) r′ → Decided f g care value r′
       say-both q r′ high = both r′ (rw e at (rw q at low)) (rw e at high)

@@ -8,7 +8,7 @@ use native.Mathlib.Decide.{ℕ-discrete}
 use borrow.Author.Tests.{eqb-true}
 use lib.ListN.{length, getD}
 use lib.Bits.{bitAnd, bitOr}
-use Rattle.compare.specs.EngineSets.{member, hit, answerOf, meets, Within, Ready}
+use Rattle.compare.specs.EngineSets.{member, hit, answerOf, meets, Within, Ready, Only}
 use Rattle.compare.specs.EngineCubes.{Alike}
 use Rattle.compare.proofs.EngineFirst.{rest, rest-step, rest-take, rest-end}
 use Rattle.compare.proofs.EngineBits.{alike-match, cover-match}
@@ -86,23 +86,39 @@ module _ (oc ov od ol : List ℕ) (om : ℕ) (nc nv nd nl : List ℕ) (nm care v
         ∙ d
         ∙ sym (rest-take (hit nc nv nl h) nd nm (length nc) j l′ (sym (same-hit h inside) ∙ p)))
 
-  pub step-end : (i j : ℕ) → Step i j → i ≡ length oc → j ≡ length nc → om ≡ nm → Alike (answerOf oc ov od ol om) (answerOf nc nv nd nl nm) care value
+  -- what is left of both gives every header of the cube the same decision
+  pub step-only : (i j d : ℕ) → Step i j → Only oc ov od ol om care value i d → Only nc nv nd nl nm care value j d
+      → Alike (answerOf oc ov od ol om) (answerOf nc nv nd nl nm) care value
   unfolding Alike
-  step-end i j S e e′ q h l inside = S .back h inside (rest-end _ _ om _ i (omega arith) ∙ q ∙ sym (rest-end _ _ nm _ j (omega arith)))
+  step-only i j d S p q h u inside = S .back h inside (p h inside ∙ sym (q h inside))
 
-  -- one side has run out, and a rule of the other covers the cube and decides as that side's miss does
-  pub step-old-covers : (i j : ℕ) → Ready oc ov od → Within oc ov ol care value → member ol i ≡ true → Step i j → i < length oc → j ≡ length nc
-      → getD od i 0 ≡ nm → bitAnd (getD oc i 0) care ≡ getD oc i 0 → Alike (answerOf oc ov od ol om) (answerOf nc nv nd nl nm) care value
-  unfolding Alike
-  step-old-covers i j ok w in-play S l e d c h u inside =
-      let p : hit oc ov ol h i ≡ true =
-      hit-yes oc ov ol h i in-play (cover-match h care value (getD oc i 0) (getD ov i 0) inside (ok .within i) (within-at oc ov ol care value w i in-play) c) in
-      S .back h inside (rest-take (hit oc ov ol h) od om (length oc) i l p ∙ d ∙ sym (rest-end _ _ nm _ j (omega arith)))
+-- ---- rules in play that all decide d
 
-  pub step-new-covers : (i j : ℕ) → Ready nc nv nd → Within nc nv nl care value → member nl j ≡ true → Step i j → i ≡ length oc → j < length nc
-      → getD nd j 0 ≡ om → bitAnd (getD nc j 0) care ≡ getD nc j 0 → Alike (answerOf oc ov od ol om) (answerOf nc nv nd nl nm) care value
-  unfolding Alike
-  step-new-covers i j ok w in-play S e l d c h u inside =
-      let p : hit nc nv nl h j ≡ true =
-      hit-yes nc nv nl h j in-play (cover-match h care value (getD nc j 0) (getD nv j 0) inside (ok .within j) (within-at nc nv nl care value w j in-play) c) in
-      S .back h inside (rest-end _ _ om _ i (omega arith) ∙ sym d ∙ sym (rest-take (hit nc nv nl h) nd nm (length nc) j l p))
+module _ (cs vs ds live : List ℕ) (miss care value d : ℕ) where
+  -- no rule is left: every header gets the miss
+  pub only-miss : (i : ℕ) → i ≡ length cs → miss ≡ d → Only cs vs ds live miss care value i d
+  only-miss i e q h inside = rest-end (hit cs vs live h) ds miss (length cs) i (omega arith) ∙ q
+
+  -- where the rules from i on give d, so do those from `first` on
+  abbrev pub Through : (first i : ℕ) → Type 0
+  Through first i = Only cs vs ds live miss care value i d → Only cs vs ds live miss care value first d
+
+  pub through-start : (first : ℕ) → Through first first
+  through-start first o = o
+
+  pub through-more : (first i i′ : ℕ) → Through first i → i < length cs → getD ds i 0 ≡ d → i + 1 ≤ i′ → i′ ≤ length cs
+      → ((k : ℕ) → i + 1 ≤ k → k < i′ → member live k ≡ false) → Through first i′
+  through-more first i i′ T l e a f z o = T (λ h inside.
+      rest-step (hit cs vs live h) ds miss (length cs) i l
+      ∙ both (hit cs vs live h i) e (rest-live cs vs ds live miss h (i + 1) i′ a f z ∙ o h inside))
+    where
+      both : (b : Bool) {x y : ℕ} → x ≡ d → y ≡ d → cond b x y ≡ d
+      both true p q = p
+      both false p q = q
+
+  pub through-cover : (first i : ℕ) → Through first i → Ready cs vs ds → Within cs vs live care value → member live i ≡ true → i < length cs
+      → getD ds i 0 ≡ d → bitAnd (getD cs i 0) care ≡ getD cs i 0 → Only cs vs ds live miss care value first d
+  through-cover first i T ok w in-play l e c = T (λ h inside.
+      let p : hit cs vs live h i ≡ true =
+      hit-yes cs vs live h i in-play (cover-match h care value (getD cs i 0) (getD vs i 0) inside (ok .within i) (within-at cs vs live care value w i in-play) c) in
+      rest-take (hit cs vs live h) ds miss (length cs) i l p ∙ e)

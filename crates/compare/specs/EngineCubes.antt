@@ -25,12 +25,6 @@ pub record Block (base k : ℕ) : Type 0 where
   pub even : base % 2 ^ k ≡ 0
   pub fits : base + 2 ^ k ≤ 2 ^ 64
 
--- The longest block that starts at `at`, within a width.
-pub record Starts (at width k : ℕ) : Type 0 where
-  pub few : k ≤ width
-  pub even : at % 2 ^ k ≡ 0
-  pub fits : at + 2 ^ k ≤ 2 ^ width
-
 -- On the block of 2^k headers that h lies in, the set of rules in play answers as f does.
 abbrev pub AnswersIn : (cs vs ds bits : List ℕ) → (miss : ℕ) → (f : ℕ → ℕ) → (h k : ℕ) → Type 0
 AnswersIn cs vs ds bits miss f h k = (x : ℕ) → x < 2 ^ 64 → x / 2 ^ k ≡ h / 2 ^ k → answerOf cs vs ds bits miss x ≡ f x

@@ -64,3 +64,8 @@ pub record Kept (cs vs old new : List ℕ) (care value i : ℕ) : Type 0 where
   pub few : i ≤ length cs
   pub below : (k : ℕ) → k < i → member new k ≡ (member old k && meets (getD cs k 0) (getD vs k 0) care value)
   pub above : (k : ℕ) → i ≤ k → member new k ≡ false
+
+-- Every header of the cube gets d from the rules in play from rule i on.
+abbrev pub Only : (cs vs ds bits : List ℕ) → (miss care value i d : ℕ) → Type 0
+Only cs vs ds bits miss care value i d =
+    (h : ℕ) → bitAnd h care ≡ value → firstFrom (hit cs vs bits h) ds miss (length cs - i) i ≡ d

@@ -8,7 +8,7 @@ ghost use Rattle.rules.specs.Rules.{first as firstOf};
 ghost use Rattle.rules.specs.Slices.{rulesOf};
 ghost use Rattle.compare.specs.Search.{Listed, LeastIn};
 ghost use Rattle.compare.specs.EngineSets.{Ready, answerOf};
-ghost use Rattle.compare.specs.EngineCubes.{Block, Starts, AnswersIn, Nearer};
+ghost use Rattle.compare.specs.EngineCubes.{Block, AnswersIn, Nearer};
 use crate::engine_cubes::differs;
 use crate::engine_sets::Cube;
 use crate::engine_sets::known;
@@ -107,62 +107,79 @@ fn descend(
     at
 }
 
-// The least difference of a block of 2^k headers from `at` on.
+// The least difference of the block of 2^k headers from `at` on.
 fn least_in_block(
     oc: &[u64],
     ov: &[u64],
     od: &[u16],
+    ol: &mut [u64; 16],
     om: u16,
     nc: &[u64],
     nv: &[u64],
     nd: &[u16],
+    nl: &mut [u64; 16],
     nm: u16,
     at: u64,
     k: u32,
 ) -> Found
     requires { ⌜ Ready (now oc) (now ov) (now od) × Ready (now nc) (now nv) (now nd) × Block at k ⌝ }
-    ensures { λ r. ⌜ LeastIn (λ h. firstOf (rulesOf (now (oc .entry)) (now (ov .entry)) (now (od .entry))) h om)
-        (λ h. firstOf (rulesOf (now (nc .entry)) (now (nv .entry)) (now (nd .entry))) h nm) at (at + 2 ^ k) r ⌝ }
+    ensures { λ r. ⌜ LeastIn (answerOf (now (oc .entry)) (now (ov .entry)) (now (od .entry)) (now (ol .entry)) om)
+        (answerOf (now (nc .entry)) (now (nv .entry)) (now (nd .entry)) (now (nl .entry)) nm) at (at + 2 ^ k) r ⌝ }
 {
-    let all = [18446744073709551615u64; 16];
     let cube = Cube {
         care: 18446744073709551615 - ones(k),
         value: at,
     };
-    let mut o = [0u64; 16];
-    narrow(oc, ov, &all, &mut o, cube);
-    let mut n = [0u64; 16];
-    narrow(nc, nv, &all, &mut n, cube);
-    let found = differs(oc, ov, od, &o, om, nc, nv, nd, &n, nm, cube, false);
+    let found = differs(oc, ov, od, ol, om, nc, nv, nd, nl, nm, cube, false);
     match found {
-        Found::At(h) => Found::At(descend(
-            oc,
-            ov,
-            od,
-            &mut o,
-            om,
-            nc,
-            nv,
-            nd,
-            &mut n,
-            nm,
-            known(h),
-            k,
-        )),
+        Found::At(h) => Found::At(descend(oc, ov, od, ol, om, nc, nv, nd, nl, nm, known(h), k)),
         Found::Nothing => Found::Nothing,
     }
 }
 
-// The number of free low places of the longest block that starts at `at`.
-fn block_of(at: u64, width: u32) -> u32
-    requires { ⌜ (width ≤ 64) × (at < 2 ^ width) ⌝ }
-    ensures { λ r. ⌜ Starts at width r ⌝ }
+// The least difference from `lo` on in the block of 2^k headers that `lo` lies in. The rules in play are narrowed to that
+// block, and the smaller blocks inside it that follow `lo` are searched with what is left of them.
+fn least_after(
+    oc: &[u64],
+    ov: &[u64],
+    od: &[u16],
+    ol: &[u64; 16],
+    om: u16,
+    nc: &[u64],
+    nv: &[u64],
+    nd: &[u16],
+    nl: &[u64; 16],
+    nm: u16,
+    lo: u64,
+    k: u32,
+) -> Found
+    requires { ⌜ Ready (now oc) (now ov) (now od) × Ready (now nc) (now nv) (now nd) × (k ≤ 64) ⌝ }
+    ensures { λ r. ⌜ LeastIn (answerOf (now (oc .entry)) (now (ov .entry)) (now (od .entry)) (now (ol .entry)) om)
+        (answerOf (now (nc .entry)) (now (nv .entry)) (now (nd .entry)) (now (nl .entry)) nm) lo (lo / 2 ^ k * 2 ^ k + 2 ^ k) r ⌝ }
 {
-    let t = u64::trailing_zeros(at);
-    if t < width {
-        return t;
+    let care = 18446744073709551615 - ones(k);
+    let base = lo & care;
+    let cube = Cube {
+        care: care,
+        value: base,
+    };
+    let mut o = [0u64; 16];
+    narrow(oc, ov, ol, &mut o, cube);
+    let mut n = [0u64; 16];
+    narrow(nc, nv, nl, &mut n, cube);
+    if lo == base {
+        return least_in_block(oc, ov, od, &mut o, om, nc, nv, nd, &mut n, nm, lo, k);
     }
-    width
+    let j = k - 1;
+    let low = least_after(oc, ov, od, &o, om, nc, nv, nd, &n, nm, lo, j);
+    let Found::Nothing = low else {
+        return low;
+    };
+    if (lo >> j) & 1 == 1 {
+        return Found::Nothing;
+    }
+    let high = base + (1u64 << j);
+    least_in_block(oc, ov, od, &mut o, om, nc, nv, nd, &mut n, nm, high, j)
 }
 
 // The least header from `lo` on at which the old list, a miss of it counting as `old_miss`, and the new one answer otherwise.
@@ -186,29 +203,19 @@ pub(crate) fn least_from(
         (λ h. firstOf (rulesOf (now («new_care» .entry)) (now («new_value» .entry)) (now («new_decision» .entry))) h «new_miss»)
         lo (2 ^ width) r ⌝ }
 {
-    let top = ones(width);
-    let mut at = lo;
-    loop {
-        let k = block_of(at, width);
-        let found = least_in_block(
-            old_care,
-            old_value,
-            old_decision,
-            old_miss,
-            new_care,
-            new_value,
-            new_decision,
-            new_miss,
-            at,
-            k,
-        );
-        let Found::Nothing = found else {
-            return found;
-        };
-        let end = at + ones(k);
-        if end == top {
-            return Found::Nothing;
-        }
-        at = end + 1;
-    }
+    let all = [18446744073709551615u64; 16];
+    least_after(
+        old_care,
+        old_value,
+        old_decision,
+        &all,
+        old_miss,
+        new_care,
+        new_value,
+        new_decision,
+        &all,
+        new_miss,
+        lo,
+        width,
+    )
 }

@@ -68,10 +68,12 @@ fn tally(care: &[u64], live: &[u64; 16], places: u64, low: Low, high: &mut [u64;
         ones = ones ^ x;
         let b = twos & a;
         twos = twos ^ a;
-        let c = fours & b;
-        fours = fours ^ b;
-        if c != 0 {
-            count_eight(high, c);
+        if b != 0 {
+            let c = fours & b;
+            fours = fours ^ b;
+            if c != 0 {
+                count_eight(high, c);
+            }
         }
         s = next(live, s, i + 1, n, words);
     }

@@ -6,12 +6,13 @@ ghost use mathlib.Core.Bool.{Bool, true, false};
 ghost use Prim.Native.Nat.{ℕ, _+_, _<_, _≤_, _^_};
 ghost use lib.ListN.{length, getD};
 ghost use lib.Bits.{bitAnd, bitOr};
-ghost use Rattle.compare.specs.EngineSets.{Ready, answerOf, Within};
+ghost use Rattle.compare.specs.EngineSets.{Ready, Pending, member, answerOf, Within, Only};
 ghost use Rattle.compare.specs.EngineCubes.{Alike, Decided};
 use crate::engine::Found;
 use crate::engine_choice::pick;
 use crate::engine_choice::wanted;
 use crate::engine_sets::Cube;
+use crate::engine_sets::Spot;
 use crate::engine_sets::answer;
 use crate::engine_sets::narrow;
 use crate::engine_sets::next;
@@ -52,22 +53,42 @@ fn same_rest(
     true
 }
 
-// Whether a rule covers the cube and decides what a miss counts as on the other side, whose rules have run out.
-fn settles(care: &[u64], decision: &[u16], i: usize, miss: u16, cube: u64) -> bool
-    requires { ⌜ (length (now care) ≤ 1024) × (length (now decision) ≡ length (now care)) × (i < length (now care)) ⌝ }
-    ensures { λ r. ⌜ (r ≡ true → (getD (now (decision .entry)) i 0 ≡ miss)
-        × (bitAnd (getD (now (care .entry)) i 0) cube ≡ getD (now (care .entry)) i 0)) ⌝ }
+// Whether every header of the cube gets `d` from the rules in play from `s` on, because each of them, up to one that covers
+// the cube, decides d, or, where none covers it, a miss counts as d too.
+fn only(
+    care: &[u64],
+    value: &[u64],
+    decision: &[u16],
+    live: &[u64; 16],
+    miss: u16,
+    s: Spot,
+    d: u16,
+    cube: Cube,
+) -> bool
+    requires { ⌜ Ready (now care) (now value) (now decision) × Within (now care) (now value) (now live) (cube .care) (cube .value)
+        × (s .at ≤ length (now care)) × (s .at < length (now care) → member (now live) (s .at) ≡ true)
+        × (s .at < length (now care) → Pending (now live) (s .word) (s .left) (s .at + 1)) ⌝ }
+    ensures { λ r. ⌜ (r ≡ true → Only (now (care .entry)) (now (value .entry)) (now (decision .entry)) (now (live .entry)) miss
+        (cube .care) (cube .value) (s .at) d) ⌝ }
 {
-    if decision[i] != miss {
-        return false;
+    let n = care.len();
+    let words = (n + 63) / 64;
+    let mut t = s;
+    while t.at < n {
+        let i = t.at;
+        if decision[i] != d {
+            return false;
+        }
+        if (care[i] & cube.care) == care[i] {
+            return true;
+        }
+        t = next(live, t, i + 1, n, words);
     }
-    if (care[i] & cube) != care[i] {
-        return false;
-    }
-    true
+    miss == d
 }
 
-// Walks both sets in step, up to the first pair that differs or to a rule that covers the cube.
+// Walks both sets in step, up to the first pair that differs or to a rule that covers the cube. What is left of the two
+// from such a pair on may still give every header of the cube one and the same decision.
 fn agree(
     oc: &[u64],
     ov: &[u64],
@@ -101,19 +122,13 @@ fn agree(
         let i = s.at;
         let j = t.at;
         if i == n {
-            if j == m {
-                if om == nm {
-                    return Pairing::Same;
-                }
-            } else {
-                if settles(nc, nd, j, om, cube.care) {
-                    return Pairing::Same;
-                }
+            if only(nc, nv, nd, nl, nm, t, om, cube) {
+                return Pairing::Same;
             }
             return Pairing::Apart(i, j);
         }
         if j == m {
-            if settles(oc, od, i, nm, cube.care) {
+            if only(oc, ov, od, ol, om, s, nm, cube) {
                 return Pairing::Same;
             }
             return Pairing::Apart(i, j);
@@ -123,6 +138,12 @@ fn agree(
                 return Pairing::Same;
             }
         } else {
+            let d = od[i];
+            if only(oc, ov, od, ol, om, s, d, cube) {
+                if only(nc, nv, nd, nl, nm, t, d, cube) {
+                    return Pairing::Same;
+                }
+            }
             return Pairing::Apart(i, j);
         }
         from = i + 1;
@@ -205,24 +226,12 @@ pub(crate) fn differs(
         value: value,
     };
     let low = differs(oc, ov, od, &o, om, nc, nv, nd, &n, nm, zero, true);
-    match low {
-        Found::At(h) => Found::At(h),
-        Found::Nothing => differs(
-            oc,
-            ov,
-            od,
-            &o,
-            om,
-            nc,
-            nv,
-            nd,
-            &n,
-            nm,
-            Cube {
-                care: care | p,
-                value: value | p,
-            },
-            false,
-        ),
-    }
+    let Found::Nothing = low else {
+        return low;
+    };
+    let one = Cube {
+        care: care | p,
+        value: value | p,
+    };
+    differs(oc, ov, od, &o, om, nc, nv, nd, &n, nm, one, false)
 }

@@ -14,3 +14,5 @@ pub mod CarryLaws
 pub mod Theorems
 pub mod Unique
 pub mod Rows
+pub mod CompareLaws
+pub mod CompareUnique

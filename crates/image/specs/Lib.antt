@@ -7,3 +7,5 @@ pub mod Calls
 pub mod Writing
 pub mod Filled
 pub mod Putting
+pub mod Comparing
+pub mod Bodies

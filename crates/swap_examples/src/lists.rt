@@ -42,6 +42,10 @@ pub fn answers() {
     both(b"001: ", s, 1);
     both(b"010: ", s, 2);
     both(b"011: ", s, 3);
+}
+
+pub fn high_answers() {
+    let s = orders::three(3, 1, 2, 3);
     both(b"100: ", s, 4);
     both(b"101: ", s, 5);
     both(b"110: ", s, 6);
@@ -85,12 +89,18 @@ pub fn refusals() {
     let v = [4u64; 1];
     let d = [1u16; 1];
     let top = [9223372036854775808u64; 1];
-    let none = [65535u16; 1];
-    let empty = [0u64; 0];
     high(b"0 .. 01 by 64 .. 1 in 1* .. *: ", 64, &top, &top, &d);
     high(b"in the rule that cares at place 62: ", 64, &c, &v, &d);
     high(b"in a list of width 63: ", 63, &c, &v, &d);
     high(b"in a list of width 3: ", 3, &c, &v, &d);
+}
+
+pub fn bad_lists() {
+    let c = [4u64; 1];
+    let v = [4u64; 1];
+    let d = [1u16; 1];
+    let none = [65535u16; 1];
+    let empty = [0u64; 0];
     high(b"in a list of width 2: ", 2, &c, &v, &d);
     high(b"in a list of width 0: ", 0, &c, &v, &d);
     high(b"in a list of width 65: ", 65, &c, &v, &d);

@@ -12,6 +12,10 @@ pub fn places() {
     let first = [2u64, 2];
     let second = [2u64, 0];
     show::swap(b"1* and 0*: ", rules::prefix_swap(2, &first, &second, &d));
+}
+
+pub fn ties() {
+    let d = [1u16, 2];
     let ends = [10u64, 8];
     let zeros = [0u64, 0];
     show::swap(b"0*0* and 0***: ", rules::prefix_swap(4, &ends, &zeros, &d));
@@ -34,6 +38,9 @@ pub fn wide() {
         b"no rules, width 64: ",
         rules::prefix_swap(64, &none, &none, &no_decisions),
     );
+}
+
+pub fn full() {
     let last = [1u64; 1];
     let d = [1u16; 1];
     show::swap(
@@ -59,6 +66,9 @@ pub fn crossing() {
         b"01*0 and 101*: ",
         rules::prefix_swap(4, &paper, &values, &d),
     );
+}
+
+pub fn least_pairs() {
     let four = [4u64, 6, 5, 3];
     let zeros = [0u64; 4];
     let ds = [1u16; 4];
@@ -85,6 +95,12 @@ pub fn refusals() {
         b"0* and *0, width 4294967295: ",
         rules::prefix_swap(4294967295, &c, &v, &d),
     );
+}
+
+pub fn bad_lists() {
+    let c = [2u64, 1];
+    let v = [0u64, 0];
+    let d = [1u16, 2];
     let short = [0u64; 1];
     show::swap(b"a value too few: ", rules::prefix_swap(2, &c, &short, &d));
     show::swap(b"0* and *0, width 1: ", rules::prefix_swap(1, &c, &v, &d));
@@ -98,6 +114,9 @@ pub fn refusals() {
         b"0* and *0 with decision 65,535: ",
         rules::prefix_swap(2, &c, &v, &none),
     );
+}
+
+pub fn long_list() {
     let many = [0u64; 1025];
     let ds = [1u16; 1025];
     show::swap(b"1,025 rules: ", rules::prefix_swap(2, &many, &many, &ds));

@@ -41,13 +41,13 @@ one-woven (Woven.Refused x) (Woven.Refused y) e = ap Woven.Refused (one-refusal 
 -- ---- one result for each call
 
 -- `runs`: two results that meet the promise are equal, the slice of sizes too
-pub runs-unique : (w : ℕ) (cs vs ds sizes a b : List ℕ) (x y : Counted) → RunsDone w cs vs ds sizes a x → RunsDone w cs vs ds sizes b y
+pub runs-once : (w : ℕ) (cs vs ds sizes a b : List ℕ) (x y : Counted) → RunsDone w cs vs ds sizes a x → RunsDone w cs vs ds sizes b y
     → (x ≡ y) × (a ≡ b)
-runs-unique w cs vs ds sizes a b x y p q = (one-counted x y (p .reply ∙ sym (q .reply)), p .after ∙ sym (q .after))
+runs-once w cs vs ds sizes a b x y p q = (one-counted x y (p .reply ∙ sym (q .reply)), p .after ∙ sym (q .after))
 
 -- `weave`: two results that meet the promise are equal, the three result slices too
-pub weave-unique : (w : ℕ) (cs vs ds ocs ovs ods a₁ b₁ c₁ a₂ b₂ c₂ : List ℕ) (x y : Woven)
+pub weave-once : (w : ℕ) (cs vs ds ocs ovs ods a₁ b₁ c₁ a₂ b₂ c₂ : List ℕ) (x y : Woven)
     → WeaveDone w cs vs ds ocs ovs ods a₁ b₁ c₁ x → WeaveDone w cs vs ds ocs ovs ods a₂ b₂ c₂ y
     → (x ≡ y) × ((a₁ ≡ a₂) × ((b₁ ≡ b₂) × (c₁ ≡ c₂)))
-weave-unique w cs vs ds ocs ovs ods a₁ b₁ c₁ a₂ b₂ c₂ x y p q =
+weave-once w cs vs ds ocs ovs ods a₁ b₁ c₁ a₂ b₂ c₂ x y p q =
     (one-woven x y (p .reply ∙ sym (q .reply)), (p .cares ∙ sym (q .cares), (p .values ∙ sym (q .values), p .decisions ∙ sym (q .decisions))))

@@ -11,7 +11,7 @@ use Rattle.rules.specs.Words.{bit}
 use Rattle.compare.specs.EngineSets.{answerOf, Ready, Within, Narrowed}
 use Rattle.compare.specs.EngineCubes.{Alike, Decided}
 use Rattle.compare.proofs.EngineRules.{none-member}
-use Rattle.compare.proofs.EngineHalves.{power, grows, low-valid, high-valid, say-at, say-same, say-full, say-low, say-both, still}
+use Rattle.compare.proofs.EngineHalves.{power, grows, low-valid, high-valid, say-at, say-same, say-full, say-found, say-both, still}
 use borrow.Fn.Kinds.{In}
 use borrow.Fn.PlainCycle.{Measures, is, falls, and}
 use Rattle.compare.proofs.engine_cubes.differs.Reads as differs
@@ -90,11 +90,16 @@ differs-differs-requires t c κs =
     let less : 2 ^ 64 - bitOr care (1 * 2 ^ k % 18446744073709551616) < t = less-by care k t _ p (grows care value k (E .1) ok) (E .2) (c .before .before .before .before .before .before .before .before .before .before .before .before .before .before .before .before .before .before .before .before .before .before .before .before .before .before .before .pre .0) in
     (less, (c .before .before .before .before .before .before .before .before .before .before .before .before .before .before .before .before .before .before .before .before .before .before .before .before .before .before .before .pre .1 .0, c .before .before .before .before .before .before .before .before .before .before .before .before .before .before .before .before .before .before .before .before .before .before .before .before .before .before .before .pre .1 .1, subst (λ (x : ℕ). bitAnd value (bitOr care x) ≡ value) (sym p) (low-valid care value k (E .1) ok), λ e. c .before .before .before .before .before .before .before .before .unlike .ensures .0 (c .before .before .before .before .before .before .before .if1 .left)))
 
-differs-enum-known-low : (t : ℕ) → differs-lts.Need-enum-known-low (narrow-reads.Asked, narrow-reads.Learnt, agree-reads.Asked, agree-reads.Learnt, unlike-reads.Asked, unlike-reads.Learnt, wanted-reads.Asked, wanted-reads.Learnt, pick-reads.Asked, pick-reads.Learnt, differs-below t, differs.Post) (differs-at t) differs.Post
-differs-enum-known-low t c = search needs
-
 differs-enum-told-2 : (t : ℕ) → differs-lts.Need-enum-told-2 (narrow-reads.Asked, narrow-reads.Learnt, agree-reads.Asked, agree-reads.Learnt, unlike-reads.Asked, unlike-reads.Learnt, wanted-reads.Asked, wanted-reads.Learnt, pick-reads.Asked, pick-reads.Learnt, differs-below t, differs.Post) (differs-at t) differs.Post
 differs-enum-told-2 t c = search needs
+
+differs-enum-told-3 : (t : ℕ) → differs-lts.Need-enum-told-3 (narrow-reads.Asked, narrow-reads.Learnt, agree-reads.Asked, agree-reads.Learnt, unlike-reads.Asked, unlike-reads.Learnt, wanted-reads.Asked, wanted-reads.Learnt, pick-reads.Asked, pick-reads.Learnt, differs-below t, differs.Post) (differs-at t) differs.Post
+differs-enum-told-3 t c = search needs
+
+differs-returns-4 : (t : ℕ) → differs-lts.Need-returns-4 (narrow-reads.Asked, narrow-reads.Learnt, agree-reads.Asked, agree-reads.Learnt, unlike-reads.Asked, unlike-reads.Learnt, wanted-reads.Asked, wanted-reads.Learnt, pick-reads.Asked, pick-reads.Learnt, differs-below t, differs.Post) (differs-at t) differs.Post
+differs-returns-4 t c =
+    let E = c .before .before .before .before .before .pick .ensures in
+    say-found _ _ _ _ _ _ (c .before .before .before .before .before .before .before .before .before .before .before .before .before .before .before .before .before .before .before .before .before .before .narrow .ensures .same (c .before .before .before .before .before .before .before .before .before .before .before .before .before .before .before .before .before .before .before .before .before .before .before .before .before .before .before .before .before .before .args .od .now) (c .before .before .before .before .before .before .before .before .before .before .before .before .before .before .before .before .before .before .before .before .before .before .before .before .before .before .before .before .before .before .args .om)) (c .before .before .before .before .before .before .before .before .before .before .before .before .before .before .before .before .before .before .before .before .narrow2 .ensures .same (c .before .before .before .before .before .before .before .before .before .before .before .before .before .before .before .before .before .before .before .before .before .before .before .before .before .before .before .before .before .before .args .nd .now) (c .before .before .before .before .before .before .before .before .before .before .before .before .before .before .before .before .before .before .before .before .before .before .before .before .before .before .before .before .before .before .args .nm)) _ (E .1) (c .before .before .before .before .before .before .before .before .before .before .before .before .before .before .before .before .before .before .before .before .before .before .before .before .before .before .before .before .before .before .pre .1 .2) _ (power _ (E .0)) _ (c .before .before .differs .ensures) (c .enum-told3 .given .1)
 
 differs-differs-requires-2 : (t : ℕ) → differs-lts.Need-differs-requires-2 (narrow-reads.Asked, narrow-reads.Learnt, agree-reads.Asked, agree-reads.Learnt, unlike-reads.Asked, unlike-reads.Learnt, wanted-reads.Asked, wanted-reads.Learnt, pick-reads.Asked, pick-reads.Learnt, differs-below t, differs.Post) (differs-at t) differs.Post
 differs-differs-requires-2 t c κs =
@@ -107,11 +112,6 @@ differs-differs-requires-2 t c κs =
     let p : 1 * 2 ^ k % 18446744073709551616 ≡ 2 ^ k = power k (E .0) in
     let less : 2 ^ 64 - bitOr care (1 * 2 ^ k % 18446744073709551616) < t = less-by care k t _ p (grows care value k (E .1) ok) (E .2) (c .before .before .before .before .before .before .before .before .before .before .before .before .before .before .before .before .before .before .before .before .before .before .before .before .before .before .before .before .before .before .before .before .pre .0) in
     (less, (c .before .before .before .before .before .before .before .before .before .before .before .before .before .before .before .before .before .before .before .before .before .before .before .before .before .before .before .before .before .before .before .before .pre .1 .0, c .before .before .before .before .before .before .before .before .before .before .before .before .before .before .before .before .before .before .before .before .before .before .before .before .before .before .before .before .before .before .before .before .pre .1 .1, subst (λ (x : ℕ). bitAnd (bitOr value x) (bitOr care x) ≡ bitOr value x) (sym p) (high-valid care value k (E .1) ok), λ e. absurd (false≢true e)))
-
-differs-returns-4 : (t : ℕ) → differs-lts.Need-returns-4 (narrow-reads.Asked, narrow-reads.Learnt, agree-reads.Asked, agree-reads.Learnt, unlike-reads.Asked, unlike-reads.Learnt, wanted-reads.Asked, wanted-reads.Learnt, pick-reads.Asked, pick-reads.Learnt, differs-below t, differs.Post) (differs-at t) differs.Post
-differs-returns-4 t c =
-    let E = c .before .before .before .before .before .before .pick .ensures in
-    say-low _ _ _ _ _ _ (c .before .before .before .before .before .before .before .before .before .before .before .before .before .before .before .before .before .before .before .before .before .before .before .narrow .ensures .same (c .before .before .before .before .before .before .before .before .before .before .before .before .before .before .before .before .before .before .before .before .before .before .before .before .before .before .before .before .before .before .before .args .od .now) (c .before .before .before .before .before .before .before .before .before .before .before .before .before .before .before .before .before .before .before .before .before .before .before .before .before .before .before .before .before .before .before .args .om)) (c .before .before .before .before .before .before .before .before .before .before .before .before .before .before .before .before .before .before .before .before .before .narrow2 .ensures .same (c .before .before .before .before .before .before .before .before .before .before .before .before .before .before .before .before .before .before .before .before .before .before .before .before .before .before .before .before .before .before .before .args .nd .now) (c .before .before .before .before .before .before .before .before .before .before .before .before .before .before .before .before .before .before .before .before .before .before .before .before .before .before .before .before .before .before .before .args .nm)) _ (E .1) (c .before .before .before .before .before .before .before .before .before .before .before .before .before .before .before .before .before .before .before .before .before .before .before .before .before .before .before .before .before .before .before .pre .1 .2) _ (power _ (E .0)) _ (c .before .before .before .differs .ensures) _ (c .before .low .given .1)
 
 differs-returns-5 : (t : ℕ) → differs-lts.Need-returns-5 (narrow-reads.Asked, narrow-reads.Learnt, agree-reads.Asked, agree-reads.Learnt, unlike-reads.Asked, unlike-reads.Learnt, wanted-reads.Asked, wanted-reads.Learnt, pick-reads.Asked, pick-reads.Learnt, differs-below t, differs.Post) (differs-at t) differs.Post
 differs-returns-5 t c =
@@ -136,8 +136,8 @@ pub +differs-spec : {M : Type 1} → statement M
     (differs-cast-p t)
     (differs-shl-p t)
     (differs-differs-requires t)
-    (differs-enum-known-low t)
     (differs-enum-told-2 t)
-    (differs-differs-requires-2 t)
+    (differs-enum-told-3 t)
     (differs-returns-4 t)
+    (differs-differs-requires-2 t)
     (differs-returns-5 t)

@@ -73,7 +73,7 @@ clear-sizes-requires : tie.Need-clear-sizes-requires Inv-loop μ-loop
 clear-sizes-requires c κs =
     let o = c .before .before .loop in
     let s = c .before .before .before .before .before .before .before in
-    (omega (arith, o .inv .1 .behind, o .inv .1 .inside, size s), omega (arith, o .inv .0, s .pre .1 .1))
+    (omega (arith, o .inv .1 .behind, o .inv .1 .inside, size s), omega (arith, o .inv .0, o .inv .1 .behind, o .inv .1 .inside, size s, s .pre .1 .1))
 
 -- src/cutting.rt:65:1
 same-length : tie.Need-same-length Inv-loop μ-loop

@@ -1,0 +1,69 @@
+use Prim.Native.Nat.{ℕ, _+_, _-_, _≤_, _<_}
+use mathlib.Core.Path.{_≡_, refl}
+use lib.ListN.{length}
+use native.Mathlib.Omega.{arith}
+use borrow.Author.Needs.{needs}
+use Rattle.weave_examples.proofs.build.in_order.Statement.{statement}
+use Rattle.weave_examples.proofs.build.in_order.Tie as tie
+use Rattle.weave_examples.proofs.build.in_order.Reads as reads
+use Rattle.weave_examples.proofs.build.in_order.Lts as lts
+use Rattle.rules.proofs.put_rule.Reads as put-rule-reads
+
+abbrev Inv-loop : tie.InvT-loop
+Inv-loop care₀ value₀ decision₀ n care-word i₀ care value decision i =
+    (i ≤ n) × (length care ≡ length care₀) × (length value ≡ length value₀) × (length decision ≡ length decision₀)
+
+abbrev μ-loop : tie.MeasureT-loop
+μ-loop care₀ value₀ decision₀ n care-word i₀ care value decision i = n - i
+
+-- src/build.rt:15:5
+loop-holds : tie.Need-loop-holds Inv-loop μ-loop
+loop-holds c = (search needs, refl, refl, refl)
+
+-- src/build.rt:16:9
+put-rule-requires : tie.Need-put-rule-requires Inv-loop μ-loop
+put-rule-requires c κs = search needs
+
+-- src/build.rt:27:9
+add-i : tie.Need-add-i Inv-loop μ-loop
+add-i c = search needs
+
+-- src/build.rt:15:5
+loop-less : tie.Need-loop-less Inv-loop μ-loop
+loop-less c = search needs
+
+-- src/build.rt:15:5
+loop-again : tie.Need-loop-again Inv-loop μ-loop
+loop-again c = (search needs, search needs, search needs, search needs)
+
+-- src/build.rt:7:1
+same-length : tie.Need-same-length Inv-loop μ-loop
+same-length c = search needs
+
+-- src/build.rt:7:1
+same-length-2 : tie.Need-same-length-2 Inv-loop μ-loop
+same-length-2 c = search needs
+
+-- src/build.rt:7:1
+same-length-3 : tie.Need-same-length-3 Inv-loop μ-loop
+same-length-3 c = search needs
+
+-- src/build.rt:7:1
+returns : tie.Need-returns Inv-loop μ-loop
+returns c = search needs
+
+pub in-order-spec : {M : Type 1} → statement M
+in-order-spec =
+    tie.close
+    (tie.spec
+    Inv-loop
+    μ-loop
+    loop-holds
+    put-rule-requires
+    add-i
+    loop-less
+    loop-again
+    same-length
+    same-length-2
+    same-length-3
+    returns)
