@@ -1,5 +1,6 @@
 // The tool for people who hold an image file in their hands: a thin command line over the libraries. What it writes goes to
 // standard output, in plain words.
+mod comparing;
 mod files;
 mod lines;
 mod lists;
@@ -35,6 +36,18 @@ fn run(word: &[u8], words: usize) {
     }
     if is(word, b"weave", words, 4) {
         squeezing::weave_file();
+        return;
+    }
+    if is(word, b"compare", words, 4) {
+        comparing::compare_files();
+        return;
+    }
+    if is(word, b"compare", words, 5) {
+        comparing::compare_id();
+        return;
+    }
+    if is(word, b"compare", words, 6) {
+        comparing::compare_from();
         return;
     }
     lines::usage();

@@ -41,6 +41,10 @@ pub fn byte_at(s: &[u8], i: usize) -> u64 {
     if i < s.len() { wide_byte(s[i]) } else { 0 }
 }
 
+pub fn word_at(s: &[u64], i: usize) -> u64 {
+    if i < s.len() { s[i] } else { 0 }
+}
+
 pub fn half_at(s: &[u16], i: usize) -> u64 {
     if i < s.len() { wide_half(s[i]) } else { 0 }
 }
