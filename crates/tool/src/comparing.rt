@@ -1,0 +1,204 @@
+// Comparing two images: the runs of headers on which the answers of two lists differ, a line to a run.
+use crate::files;
+use crate::files::Held;
+use crate::lines;
+use crate::lists;
+use crate::numbers;
+use crate::slices;
+use compare::Compared;
+use compare::Ending;
+use rules::Refusal;
+use rules::Verdict;
+use rules::Wire;
+use text::Number;
+
+// compare OLD NEW
+pub fn compare_files() {
+    on_images(false, 0, 0);
+}
+
+// compare OLD NEW ID
+pub fn compare_id() {
+    let i = numbers::number_at(4);
+    if let Number::Value(id) = i {
+        on_images(true, id, 0);
+    }
+}
+
+// compare OLD NEW ID START
+pub fn compare_from() {
+    let i = numbers::number_at(4);
+    let Number::Value(id) = i else {
+        return;
+    };
+    let s = numbers::number_at(5);
+    let Number::Value(start) = s else {
+        return;
+    };
+    on_images(true, id, start);
+}
+
+// The lists with that id, or the first lists where none is named.
+fn on_images(named: bool, id: u64, start: u64) {
+    let mut old_space = files::space();
+    let mut new_space = files::space();
+    let old: &mut [u8] = &mut old_space;
+    let new: &mut [u8] = &mut new_space;
+    let o = files::load_word(2, old);
+    let Held::Bytes(m) = o else {
+        return;
+    };
+    let h = files::load_word(3, new);
+    let Held::Bytes(n) = h else {
+        return;
+    };
+    compare_images(
+        slices::bytes(old, m),
+        slices::bytes(new, n),
+        named,
+        id,
+        start,
+    );
+}
+
+fn compare_images(old: &[u8], new: &[u8], named: bool, id: u64, start: u64) {
+    let mut first_space = [0u64; 1000];
+    let mut last_space = [0u64; 1000];
+    let mut old_space = [0u16; 1000];
+    let mut new_space = [0u16; 1000];
+    let first: &mut [u64] = &mut first_space;
+    let last: &mut [u64] = &mut last_space;
+    let old_answer: &mut [u16] = &mut old_space;
+    let new_answer: &mut [u16] = &mut new_space;
+    let c = compared(
+        old,
+        new,
+        named,
+        id,
+        start,
+        first,
+        last,
+        old_answer,
+        new_answer,
+    );
+    let ending = c.ending;
+    match ending {
+        Ending::Finished => {
+            show_runs(
+                lists::width_of(old),
+                first,
+                last,
+                old_answer,
+                new_answer,
+                c.count,
+            );
+            lines::named(b"runs ", c.count as u64);
+        }
+        Ending::More(h) => {
+            show_runs(
+                lists::width_of(old),
+                first,
+                last,
+                old_answer,
+                new_answer,
+                c.count,
+            );
+            lines::named(b"more ", h.0);
+        }
+        Ending::Refused(x) => lines::refusal(x),
+    }
+}
+
+// An id above 65,535 is that of no list.
+fn compared(
+    old: &[u8],
+    new: &[u8],
+    named: bool,
+    id: u64,
+    start: u64,
+    first: &mut [u64],
+    last: &mut [u64],
+    old_answer: &mut [u16],
+    new_answer: &mut [u16],
+) -> Compared {
+    if !named {
+        return image::compare_first(old, new, Wire(start), first, last, old_answer, new_answer);
+    }
+    if id <= 65535 {
+        let i = id as u16;
+        return image::compare_lists(
+            old,
+            i,
+            new,
+            i,
+            Wire(start),
+            first,
+            last,
+            old_answer,
+            new_answer,
+        );
+    }
+    Compared {
+        count: 0,
+        ending: Ending::Refused(no_list(old, new)),
+    }
+}
+
+// Why two images are not compared by an id that no list has: the old image's refusal, the new one's, 16, then 15.
+fn no_list(old: &[u8], new: &[u8]) -> Refusal {
+    let o = image::check(old);
+    if let Verdict::Refused(x) = o {
+        return x;
+    }
+    let n = image::check(new);
+    if let Verdict::Refused(x) = n {
+        return x;
+    }
+    if lists::width_of(old) != lists::width_of(new) {
+        return refused(16);
+    }
+    refused(15)
+}
+
+fn refused(number: usize) -> Refusal {
+    Refusal {
+        number,
+        list: 0,
+        rule: 0,
+    }
+}
+
+fn show_runs(width: u32, first: &[u64], last: &[u64], old: &[u16], new: &[u16], count: usize) {
+    lines::named(b"width ", width as u64);
+    let mut left = count;
+    while left > 0 {
+        let i = count - left;
+        show_run(
+            slices::word_at(first, i),
+            slices::word_at(last, i),
+            slices::half_at(old, i),
+            slices::half_at(new, i),
+        );
+        left -= 1;
+    }
+}
+
+fn show_run(first: u64, last: u64, old: u64, new: u64) {
+    lines::number(first);
+    lines::say(b" ");
+    lines::number(last);
+    lines::say(b" ");
+    show_answer(old);
+    lines::say(b" ");
+    show_answer(new);
+    lines::say(b"\n");
+}
+
+// An answer of a list: 65,535 stands for no match.
+fn show_answer(answer: u64) {
+    if answer == 65535 {
+        lines::say(b"none");
+    } else {
+        lines::number(answer);
+    }
+}
