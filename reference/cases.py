@@ -231,7 +231,7 @@ class Maker:
                     slice.pop()
                 else:
                     slice.extend([0] * self.pick(1, 1, 2, 1000))
-            elif self.chance(5):
+            elif self.chance(20):
                 for slice in (care, value, decision):
                     slice.extend([0] * (self.pick(1025, 1026) - len(slice)))
         return care, value, decision
@@ -596,7 +596,7 @@ def bad_writing(make, width, counts, ids, rules):
     elif fault == 5:
         counts, ids, rules = [], [], ([], [], [])
     else:
-        rules = make.bad_list(width, rules)
+        rules = make.bad_list(width if 1 <= width <= 64 else 64, rules)
     return width, counts, ids, rules
 
 
