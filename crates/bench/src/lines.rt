@@ -32,13 +32,24 @@ fn run(first: u64, last: u64, old: u16, new: u16) {
     text(b"\n");
 }
 
+// Run number i, counted from 0, where each slice has one.
+fn run_at(first: &[u64], last: &[u64], old: &[u16], new: &[u16], i: usize) {
+    if i < first.len() {
+        if i < last.len() {
+            if i < old.len() {
+                if i < new.len() {
+                    run(first[i], last[i], old[i], new[i]);
+                }
+            }
+        }
+    }
+}
+
 // The first `count` runs.
 fn runs(first: &[u64], last: &[u64], old: &[u16], new: &[u16], count: usize) {
     let mut i = 0;
     while i < count {
-        if i < first.len() && (i < last.len() && (i < old.len() && i < new.len())) {
-            run(first[i], last[i], old[i], new[i]);
-        }
+        run_at(first, last, old, new, i);
         i += 1;
     }
 }
