@@ -1,0 +1,31 @@
+// Runs the comparison on pairs of images that somebody else made, and writes for each what the bench program would write.
+// The images are in data/, and what must be written is in stdout.
+mod files;
+mod lines;
+
+fn case(name: &[u8], old_path: &[u8], new_path: &[u8]) {
+    io::write_all(1, b"case ");
+    io::write_all(1, name);
+    let mut old = files::space();
+    let mut new = files::space();
+    let m = files::load(old_path, &mut old);
+    let n = files::load(new_path, &mut new);
+    lines::report(&old[..m], &new[..n]);
+}
+
+fn main() {
+    case(b"000\n", b"000.old", b"000.new");
+    case(b"002\n", b"002.old", b"002.new");
+    case(b"004\n", b"004.old", b"004.new");
+    case(b"007\n", b"007.old", b"007.new");
+    case(b"008\n", b"008.old", b"008.new");
+    case(b"010\n", b"010.old", b"010.new");
+    case(b"012\n", b"012.old", b"012.new");
+    case(b"014\n", b"014.old", b"014.new");
+    case(b"019\n", b"019.old", b"019.new");
+    case(b"b000\n", b"b000.old", b"b000.new");
+    case(b"b001\n", b"b001.old", b"b001.new");
+    case(b"b005\n", b"b005.old", b"b005.new");
+    case(b"b011\n", b"b011.old", b"b011.new");
+    case(b"b013\n", b"b013.old", b"b013.new");
+}
