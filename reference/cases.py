@@ -28,6 +28,9 @@ kind. LIST stands for three lengths (2 each) and then the care words (8 each), t
         (2 each of 3), the image's bytes
     73  write           width (4), number of ids (2), number of counts (2), LIST, length of the result (4), ids (2 each),
         counts (2 each)
+    74  compare_lists   the old list's id (2), the new list's id (2), then as 75
+    75  compare_first   start (8), lengths of the results (2 each of 4), number of bytes of the old image (4), the old image's
+        bytes, the new image's bytes
 
 A line is the case's number from 1, its kind and the answers. A refusal is `refused`, its number and its place. A slice stands
 in brackets; one of more than 64 numbers as its length and a checksum: 31 times the sum so far plus the next number, by 2^64.
@@ -455,6 +458,26 @@ def like(make, width, list):
     return tuple([rule[k] for rule in rules] for k in range(3))
 
 
+def four_lengths(make):
+    """Lengths of a comparison's results: most often equal."""
+    room = make.pick(0, 1, 1, 2, 3, 5, 20, 20, 64, 64, 64)
+    lengths = [room] * 4
+    if make.chance(8):
+        lengths[make.random.randrange(4)] += make.pick(1, 2)
+    return lengths
+
+
+def compared(lengths, call, *arguments):
+    """The count with its ending, and the four results afterwards."""
+    results = [marks(length) for length in lengths]
+    try:
+        count, more = call(*arguments, *results)
+        text = "%d %s" % (count, "finished" if more is None else "more %d" % more)
+    except Refused as refused:
+        text = "0 refused %d %d %d" % (refused.number, refused.list, refused.rule)
+    return " ".join([text] + [shown(slice) for slice in results])
+
+
 def compare(make):
     good = make.width()
     list_of, most = (make.prefix_list, 60) if make.chance(15) else (make.list_of, 12)
@@ -466,18 +489,9 @@ def compare(make):
     if make.chance(8):
         new = make.bad_list(good, new)
     width = make.any_width(good, 4)
-    room = make.pick(0, 1, 1, 2, 3, 5, 20, 20, 64, 64, 64)
-    lengths = [room] * 4
-    if make.chance(8):
-        lengths[make.random.randrange(4)] += make.pick(1, 2)
-    results = [marks(length) for length in lengths]
+    lengths = four_lengths(make)
     bytes = struct.pack("<I", width) + list_bytes(old) + list_bytes(new) + struct.pack("<Q4H", start, *lengths)
-    try:
-        count, more = model.compare(width, old, new, start, *results)
-        text = "%d %s" % (count, "finished" if more is None else "more %d" % more)
-    except Refused as refused:
-        text = "0 refused %d %d %d" % (refused.number, refused.list, refused.rule)
-    return bytes, " ".join([text] + [shown(slice) for slice in results])
+    return bytes, compared(lengths, model.compare, width, old, new, start)
 
 
 def good_image(make):
@@ -621,6 +635,88 @@ def write(make):
     return bytes, said(model.write, width, counts, ids, *rules, out) + " " + shown(out)
 
 
+def some_lists(make, width):
+    """Lists by their ids; seldom a long one among them."""
+    ids = make.random.sample(range(make.pick(20, 65536)), make.pick(1, 1, 2, 3, 3, 16))
+    list_of, most = (make.prefix_list, 30) if make.chance(15) else (make.list_of, 10)
+    lists = {id: list_of(width, make.some(most)) for id in ids}
+    if make.chance(1):
+        lists[ids[0]] = make.prefix_list(width, make.random.randint(100, model.LONGEST))
+    return lists
+
+
+def most_lists(make):
+    """The lists of an image of 65,536 bytes, which is the largest; all of their rules are stars."""
+    counts = [1024, 1024, 1024, 2, make.random.randint(0, 564)]
+    counts.append(3638 - sum(counts))
+    return {make.random.randrange(10) + 10 * k: ([0] * count, [0] * count, [k] * count) for k, count in enumerate(counts)}
+
+
+def changed_lists(make, width, lists):
+    """These lists with some of them changed a little, and one gone, put in, or under another id."""
+    lists = {id: like(make, width, list) if make.chance(80) else list for id, list in lists.items()}
+    change, id = make.random.randrange(8), make.random.choice(sorted(lists))
+    if change == 0 and len(lists) > 1:
+        del lists[id]
+    elif change == 1 and len(lists) < model.MOST_LISTS:
+        lists[make.random.randrange(65536)] = make.list_of(width, make.some(6))
+    elif change == 2:
+        lists[make.random.randrange(65536)] = lists.pop(id)
+    return lists
+
+
+def image_of(width, lists):
+    ids = sorted(lists)
+    return model.image_bytes(width, [len(lists[id][0]) for id in ids], ids, [rule for id in ids for rule in zip(*lists[id])])
+
+
+def two_images(make):
+    """A width, and two images' lists and bytes: most often of that width and without a fault."""
+    width = make.width()
+    old, new = some_lists(make, width), some_lists(make, width)
+    if make.chance(70):
+        new = changed_lists(make, width, old)
+    elif make.chance(1):
+        old = most_lists(make)
+    images = [image_of(width, old), image_of(width, new)]
+    if make.chance(8):
+        other = make.width()
+        images[1] = image_of(other, {id: some_lists(make, other).popitem()[1] for id in new})
+    for side in range(2):
+        if make.chance(12):
+            images[side] = bad_image(make, images[side])
+    if make.chance(30):
+        old, new, images = new, old, images[::-1]
+    return width, old, new, images
+
+
+def asked_id(make, lists):
+    """An id that is there, or now and then one that most often is not."""
+    id = make.random.choice(sorted(lists))
+    return id if make.chance(88) else make.pick(0, 65535, id + 1, id - 1) % 65536
+
+
+def both_bytes(start, lengths, images):
+    return struct.pack("<Q4HI", start, *lengths, len(images[0])) + images[0] + images[1]
+
+
+def compare_lists(make):
+    width, old, new, images = two_images(make)
+    old_id = asked_id(make, old)
+    new_id = old_id if make.chance(70 if old_id in new else 10) else asked_id(make, new)
+    start = make.pick(0, 0, make.any_header(width, old.get(old_id)), make.any_header(width, new.get(new_id)))
+    lengths = four_lengths(make)
+    bytes = struct.pack("<2H", old_id, new_id) + both_bytes(start, lengths, images)
+    return bytes, compared(lengths, model.compare_lists, images[0], old_id, images[1], new_id, start)
+
+
+def compare_first(make):
+    width, old, new, images = two_images(make)
+    start = make.pick(0, 0, make.any_header(width, old[min(old)]), make.any_header(width, new[min(new)]))
+    lengths = four_lengths(make)
+    return both_bytes(start, lengths, images), compared(lengths, model.compare_first, *images, start)
+
+
 KINDS = {
     "rules": {
         "check_list": (1, check_list),
@@ -636,6 +732,7 @@ KINDS = {
     "weaving": {"runs": (32, runs), "weave": (33, weave)},
     "compare": {"comparison": (48, compare)},
     "image": {"images": (72, image), "write": (73, write)},
+    "lists": {"compare_lists": (74, compare_lists), "compare_first": (75, compare_first)},
 }
 
 

@@ -583,26 +583,46 @@ def write(width, counts, ids, care, value, decision, out):
 # Two images. ------------------------------------------------------------------------------------------------------------
 
 
-def first_lists(old_image, new_image):
-    """The first list of each of two images, the old image checked first: the width and the two lists."""
+def check_images(old_image, new_image):
+    """All checks of the old image, then all of the new one's, then 16. A place is the refused image's own entry and rule."""
     check_image(old_image)
     check_image(new_image)
     if old_image[1] != new_image[1]:
         raise Refused(16)
-    lists = [list(zip(*body_rules(image, entry_at(image, 0)))) or [(), (), ()] for image in (old_image, new_image)]
-    return old_image[1], lists[0], lists[1]
+
+
+def list_of(image, entry):
+    """The rules of a contents entry as three slices."""
+    rules = body_rules(image, entry)
+    return tuple([rule[k] for rule in rules] for k in range(3))
+
+
+def compare_lists(old_image, old_id, new_image, new_id, start, *results):
+    """The old image's list with the one id against the new image's with the other, as compare does two lists. The two images'
+    checks, 15 for the old list, 15 for the new one; then 6 for the start, 2 and 7 for the results."""
+    check_images(old_image, new_image)
+    old = list_of(old_image, find(old_image, old_id))
+    new = list_of(new_image, find(new_image, new_id))
+    return compare(old_image[1], old, new, start, *results)
+
+
+def compare_first(old_image, new_image, start, *results):
+    """The first list of each image. An image that passes its checks has one, so there is no 15."""
+    check_images(old_image, new_image)
+    old = list_of(old_image, entry_at(old_image, 0))
+    new = list_of(new_image, entry_at(new_image, 0))
+    return compare(old_image[1], old, new, start, *results)
 
 
 def bench(old_image, new_image, most=1000):
     """The text that the bench program writes for two images."""
+    results = [[0] * most for _ in range(4)]
     try:
-        width, old, new = first_lists(old_image, new_image)
+        count, more = compare_first(old_image, new_image, 0, *results)
     except Refused as refused:
         return "refused %d\n" % refused.number
-    results = [[0] * most for _ in range(4)]
-    count, more = compare(width, old, new, 0, *results)
     named = lambda number: "none" if number == NO_MATCH else str(number)
-    lines = ["width %d" % width]
+    lines = ["width %d" % old_image[1]]
     for first, last, a, b in list(zip(*results))[:count]:
         lines.append("%d %d %s %s" % (first, last, named(a), named(b)))
     lines.append("runs %d" % count if more is None else "more %d" % more)
