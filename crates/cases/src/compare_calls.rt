@@ -5,22 +5,7 @@ use crate::numbers::skip;
 use crate::numbers::word;
 use crate::show;
 use crate::slices;
-use compare::Compared;
-use compare::Ending;
 use rules::Wire;
-
-fn show_compared(c: Compared) {
-    show::number(c.count as u64);
-    let ending = c.ending;
-    match ending {
-        Ending::Finished => show::text(b" finished"),
-        Ending::More(h) => {
-            show::text(b" more");
-            show::number(h.0);
-        }
-        Ending::Refused(x) => show::refusal(x),
-    }
-}
 
 // The cases over a list, which is the old one; the new one and what follows it stand at `at`.
 pub fn on_list(
@@ -90,7 +75,7 @@ fn both(
     slices::mark_words(last);
     slices::mark_halves(old);
     slices::mark_halves(new);
-    show_compared(compare::compare(
+    show::compared(compare::compare(
         width,
         old_care,
         old_value,

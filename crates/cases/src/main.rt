@@ -6,6 +6,7 @@
 // and what stands in each lent result slice afterwards.
 mod compare_calls;
 mod image_calls;
+mod lists_calls;
 mod numbers;
 mod rules_calls;
 mod show;
@@ -53,8 +54,10 @@ fn alone(kind: u8, s: &[u8]) {
         rules_calls::alone(kind, s);
     } else if kind < 32 {
         swaps_calls::alone(kind, s);
-    } else if kind < 80 {
+    } else if kind < 74 {
         image_calls::alone(kind, s);
+    } else if kind < 80 {
+        lists_calls::alone(kind, s);
     }
 }
 

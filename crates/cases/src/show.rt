@@ -2,6 +2,8 @@
 use crate::numbers::byte_at;
 use crate::slices::half_at;
 use crate::slices::word_at;
+use compare::Compared;
+use compare::Ending;
 use rules::Holds;
 use rules::Looked;
 use rules::Measured;
@@ -68,6 +70,19 @@ pub fn measured(m: Measured) {
     match m {
         Measured::Places(n) => number(n as u64),
         Measured::Refused(x) => refusal(x),
+    }
+}
+
+pub fn compared(c: Compared) {
+    number(c.count as u64);
+    let ending = c.ending;
+    match ending {
+        Ending::Finished => text(b" finished"),
+        Ending::More(h) => {
+            text(b" more");
+            number(h.0);
+        }
+        Ending::Refused(x) => refusal(x),
     }
 }
 

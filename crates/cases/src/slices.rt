@@ -12,6 +12,10 @@ pub fn halves(s: &[u16], n: usize) -> &[u16] {
     if n <= s.len() { &s[..n] } else { &s[..0] }
 }
 
+pub fn bytes(s: &[u8], n: usize) -> &[u8] {
+    if n <= s.len() { &s[..n] } else { &s[..0] }
+}
+
 pub fn words_mut(s: &mut [u64], n: usize) -> &mut [u64] {
     if n <= s.len() {
         &mut s[..n]
