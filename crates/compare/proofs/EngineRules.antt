@@ -1,4 +1,4 @@
--- Laws of sets of rules in play: one more member, what they answer, and what narrowing keeps.
+-- Laws of sets of rules in play: what they answer, and what narrowing keeps.
 use Prim.Native.Nat.{ℕ, zero, suc, _+_, _-_, _*_, _/_, _%_, _^_, _≤_, _<_, min, max}
 use mathlib.Core.Path.{_≡_, refl, sym, ap, ap₂, _∙_, subst}
 use mathlib.Core.List.{List, [], _∷_}
@@ -20,89 +20,6 @@ use Rattle.rules.specs.Words.{bit}
 use Rattle.compare.proofs.EngineFirst.{rest, rest-step, rest-end, rest-pass, rest-take, rest-skip, rest-same}
 use Rattle.compare.proofs.EngineBits.{match-meets, cover-match}
 use Rattle.rules.proofs.BitLaws.{bit-or, bit<2}
-
--- ---- the places of a power of two
-
-pow-place : (s : ℕ) → bit (2 ^ s) s ≡ 1
-pow-place s = ap (λ (x : ℕ). x % 2) (ap (λ (x : ℕ). x / 2 ^ s) (omega arith) ∙ shl-shr 1 s)
-
-pow-above : (s t : ℕ) → s < t → bit (2 ^ s) t ≡ 0
-pow-above s t l = ap (λ (x : ℕ). x % 2) (div-eq-of-lt (pow-lt l))
-
-pow-under : (d t : ℕ) → bit (2 ^ (suc d + t)) t ≡ 0
-pow-under d t =
-    ap (λ (x : ℕ). x % 2) (ap (λ (x : ℕ). x / 2 ^ t) (pow-add 2 (suc d) t) ∙ shl-shr (2 ^ suc d) t ∙ pow-suc 2 d)
-    ∙ omega arith
-
-pow-below : (s t : ℕ) → t < s → bit (2 ^ s) t ≡ 0
-pow-below s t l = let e : s ≡ suc (s - t - 1) + t = omega arith in ap (λ (x : ℕ). bit (2 ^ x) t) e ∙ pow-under (s - t - 1) t
-
-pub pow-other : (s t : ℕ) → (t ≡ s → ⊥) → bit (2 ^ s) t ≡ 0
-pow-other s t ne = go (decLt s t)
-  where
-    go : Dec (s < t) → bit (2 ^ s) t ≡ 0
-    go (yes l) = pow-above s t l
-    go (no n) = pow-below s t (omega arith)
-
--- ---- one more member
-
-place : (n : ℕ) → eqb (bitAnd n 1) 1 ≡ eqb (n % 2) 1
-place n = ap (λ (x : ℕ). eqb x 1) (and-mask n 1)
-
-module _ (bits : List ℕ) (i : ℕ) (sized : length bits ≡ 16) (few : i < 1024) where
-  one : 1 * 2 ^ (i % 64) % 18446744073709551616 ≡ 2 ^ (i % 64)
-  one = shl-exact 1 (i % 64) 64 (omega arith) (omega arith) ∙ omega arith
-
-  abbrev more : List ℕ
-  more = set bits (i / 64) (bitOr (getD bits (i / 64) 0) (1 * 2 ^ (i % 64) % 18446744073709551616))
-
-  word : getD more (i / 64) 0 ≡ bitOr (getD bits (i / 64) 0) (2 ^ (i % 64))
-  word = getD-set-same bits (i / 64) _ 0 (omega arith) ∙ ap (λ (x : ℕ). bitOr (getD bits (i / 64) 0) x) one
-
-  here : member more i ≡ true
-  unfolding member
-  here = place (getD more (i / 64) 0 / 2 ^ (i % 64)) ∙ eq-eqb (bit (getD more (i / 64) 0) (i % 64)) 1 (
-      ap (λ (x : ℕ). bit x (i % 64)) word
-      ∙ bit-or (getD bits (i / 64) 0) (2 ^ (i % 64)) (i % 64)
-      ∙ ap (λ (x : ℕ). max (bit (getD bits (i / 64) 0) (i % 64)) x) (pow-place (i % 64))
-      ∙ (let l = bit<2 (getD bits (i / 64) 0) (i % 64) in omega arith))
-
-  beside : (k : ℕ) → (k ≡ i → ⊥) → k / 64 ≡ i / 64 → member more k ≡ member bits k
-  unfolding member
-  beside k ne same = place (getD more (k / 64) 0 / 2 ^ (k % 64)) ∙ ap (λ (x : ℕ). eqb x 1) (
-      ap (λ (w : ℕ). bit (getD more w 0) (k % 64)) same
-      ∙ ap (λ (x : ℕ). bit x (k % 64)) word
-      ∙ bit-or (getD bits (i / 64) 0) (2 ^ (i % 64)) (k % 64)
-      ∙ ap (λ (x : ℕ). max (bit (getD bits (i / 64) 0) (k % 64)) x) (pow-other (i % 64) (k % 64) (λ q. ne (omega arith)))
-      ∙ omega arith
-      ∙ ap (λ (w : ℕ). bit (getD bits w 0) (k % 64)) (sym same))
-      ∙ sym (place (getD bits (k / 64) 0 / 2 ^ (k % 64)))
-
-  away : (k : ℕ) → (k / 64 ≡ i / 64 → ⊥) → member more k ≡ member bits k
-  unfolding member
-  away k ne = ap (λ (x : ℕ). eqb (bitAnd (x / 2 ^ (k % 64)) 1) 1) (getD-set-other bits (i / 64) (k / 64) _ 0 ne)
-
-  pub more-member : (k : ℕ) → member more k ≡ (member bits k || eqb k i)
-  more-member k = go (ℕ-discrete k i) (ℕ-discrete (k / 64) (i / 64))
-    where
-      keep : (k ≡ i → ⊥) → member more k ≡ member bits k → member more k ≡ (member bits k || eqb k i)
-      keep ne e = e ∙ sym (or-false (member bits k)) ∙ ap (λ (b : Bool). member bits k || b) (sym (ne-eqb k i ne))
-
-      go : Dec (k ≡ i) → Dec (k / 64 ≡ i / 64) → member more k ≡ (member bits k || eqb k i)
-      go (yes e) d = ap (member more) e ∙ here ∙ sym (or-true (member bits k)) ∙ ap (λ (b : Bool). member bits k || b) (sym (eq-eqb k i e))
-      go (no ne) (yes w) = keep ne (beside k ne w)
-      go (no ne) (no w) = keep ne (away k w)
-
--- ---- no member
-
-zeros : (n j : ℕ) → _≡_ {A = ℕ} (getD (replicate n 0) j 0) 0
-zeros zero j = refl
-zeros (suc n) zero = refl
-zeros (suc n) (suc j) = zeros n j
-
-pub none-member : (k : ℕ) → member (0 ∷ 0 ∷ 0 ∷ 0 ∷ 0 ∷ 0 ∷ 0 ∷ 0 ∷ 0 ∷ 0 ∷ 0 ∷ 0 ∷ 0 ∷ 0 ∷ 0 ∷ 0 ∷ []) k ≡ false
-unfolding member
-none-member k = ap (λ (x : ℕ). eqb (bitAnd (x / 2 ^ (k % 64)) 1) 1) (zeros 16 (k / 64)) ∙ ap (λ (x : ℕ). eqb (bitAnd x 1) 1) (zero-div (2 ^ (k % 64)))
 
 both-right : (a b : Bool) → (a && b) ≡ true → b ≡ true
 both-right true b e = e
@@ -174,7 +91,7 @@ module _ (cs vs old : List ℕ) (care value i : ℕ) where
 
   -- one that is live and meets it
   pub kept-add : (new new′ : List ℕ) → Kept cs vs old new care value i → i < length cs → (member old i && meets (getD cs i 0) (getD vs i 0) care value) ≡ true
-      → length new′ ≡ 16 → ((k : ℕ) → member new′ k ≡ (member new k || eqb k i)) → Kept cs vs old new′ care value (i + 1)
+      → length new′ ≡ 17 → ((k : ℕ) → member new′ k ≡ (member new k || eqb k i)) → Kept cs vs old new′ care value (i + 1)
   kept-add new new′ K l e z m = record {
     sized = z;
     few = omega arith;
@@ -194,7 +111,7 @@ module _ (cs vs old : List ℕ) (care value i : ℕ) where
       at k u (no p) = K .above k (omega arith) ∙ sym (ap (λ (b : Bool). b && meets (getD cs k 0) (getD vs k 0) care value) (z k (omega arith) u))
 
   pub add-in : (new new′ : List ℕ) → Kept cs vs old new care value i → i < length cs → member old i ≡ true
-      → bitAnd (getD vs i 0) care ≡ bitAnd value (getD cs i 0) → (length new′ ≡ 16) × ((k : ℕ) → member new′ k ≡ (member new k || eqb k i)) → Kept cs vs old new′ care value (i + 1)
+      → bitAnd (getD vs i 0) care ≡ bitAnd value (getD cs i 0) → (length new′ ≡ 17) × ((k : ℕ) → member new′ k ≡ (member new k || eqb k i)) → Kept cs vs old new′ care value (i + 1)
   add-in new new′ K l m q e = kept-add new new′ K l (ap₂ _&&_ m (meets-true (getD cs i 0) (getD vs i 0) q)) (e .0) (e .1)
 
   pub drop-out : (new : List ℕ) → Kept cs vs old new care value i → i < length cs → member old i ≡ false → Kept cs vs old new care value (i + 1)

@@ -20,12 +20,13 @@ use Rattle.rules.proofs.BitLaws.{and-pow, bit<2, zero-or-one}
 use Rattle.compare.specs.Search.{Listed}
 use Rattle.compare.specs.EngineSets.{Ready, member, hit, firstFrom, answerOf}
 use Rattle.compare.proofs.EngineFirst.{rest, rest-end, rest-same}
+use Rattle.compare.proofs.EngineMembers.{word-in}
 use Rattle.compare.proofs.EngineRules.{answer-rest}
 
 -- ---- every rule in play
 
 abbrev pub all : List ℕ
-all = replicate 16 18446744073709551615
+all = replicate 17 18446744073709551615
 
 one-place : (s : ℕ) → s < 64 → bit 18446744073709551615 s ≡ 1
 one-place s l =
@@ -38,8 +39,8 @@ one-place s l =
 all-member : (i : ℕ) → i < 1024 → member all i ≡ true
 unfolding member
 all-member i l =
-    ap (λ (x : ℕ). eqb (bitAnd (x / 2 ^ (i % 64)) 1) 1) (getD-replicate 16 (i / 64) 18446744073709551615 0 (omega arith))
-    ∙ eq-eqb (bitAnd (18446744073709551615 / 2 ^ (i % 64)) 1) 1 (and-mask (18446744073709551615 / 2 ^ (i % 64)) 1 ∙ one-place (i % 64) (omega arith))
+    ap (λ (x : ℕ). eqb (bit x (i % 64)) 1) (word-in all (i / 64) (one-place (i / 64) (omega arith)) ∙ getD-replicate 17 (i / 64 + 1) 18446744073709551615 0 (omega arith))
+    ∙ eq-eqb (bit 18446744073709551615 (i % 64)) 1 (one-place (i % 64) (omega arith))
 
 -- rule i matches h
 abbrev fits : List ℕ → List ℕ → ℕ → ℕ → Bool

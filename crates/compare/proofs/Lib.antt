@@ -8,6 +8,7 @@ pub mod Demands
 pub mod Unique
 mod EngineBits
 mod EngineFirst
+mod EngineMembers
 mod EngineWords
 mod EngineRules
 mod EngineSieve

@@ -38,12 +38,12 @@ fn lower(
     oc: &[u64],
     ov: &[u64],
     od: &[u16],
-    ol: &mut [u64; 16],
+    ol: &mut [u64; 17],
     om: u16,
     nc: &[u64],
     nv: &[u64],
     nd: &[u16],
-    nl: &mut [u64; 16],
+    nl: &mut [u64; 17],
     nm: u16,
     h: u64,
     j: u32,
@@ -81,12 +81,12 @@ fn descend(
     oc: &[u64],
     ov: &[u64],
     od: &[u16],
-    ol: &mut [u64; 16],
+    ol: &mut [u64; 17],
     om: u16,
     nc: &[u64],
     nv: &[u64],
     nd: &[u16],
-    nl: &mut [u64; 16],
+    nl: &mut [u64; 17],
     nm: u16,
     h: u64,
     k: u32,
@@ -112,12 +112,12 @@ fn least_in_block(
     oc: &[u64],
     ov: &[u64],
     od: &[u16],
-    ol: &mut [u64; 16],
+    ol: &mut [u64; 17],
     om: u16,
     nc: &[u64],
     nv: &[u64],
     nd: &[u16],
-    nl: &mut [u64; 16],
+    nl: &mut [u64; 17],
     nm: u16,
     at: u64,
     k: u32,
@@ -143,12 +143,12 @@ fn least_after(
     oc: &[u64],
     ov: &[u64],
     od: &[u16],
-    ol: &[u64; 16],
+    ol: &[u64; 17],
     om: u16,
     nc: &[u64],
     nv: &[u64],
     nd: &[u16],
-    nl: &[u64; 16],
+    nl: &[u64; 17],
     nm: u16,
     lo: u64,
     k: u32,
@@ -163,9 +163,9 @@ fn least_after(
         care: care,
         value: base,
     };
-    let mut o = [0u64; 16];
+    let mut o = [0u64; 17];
     narrow(oc, ov, ol, &mut o, cube);
-    let mut n = [0u64; 16];
+    let mut n = [0u64; 17];
     narrow(nc, nv, nl, &mut n, cube);
     if lo == base {
         return least_in_block(oc, ov, od, &mut o, om, nc, nv, nd, &mut n, nm, lo, k);
@@ -203,7 +203,7 @@ pub(crate) fn least_from(
         (λ h. firstOf (rulesOf (now («new_care» .entry)) (now («new_value» .entry)) (now («new_decision» .entry))) h «new_miss»)
         lo (2 ^ width) r ⌝ }
 {
-    let all = [18446744073709551615u64; 16];
+    let all = [18446744073709551615u64; 17];
     least_after(
         old_care,
         old_value,

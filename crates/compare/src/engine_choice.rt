@@ -7,7 +7,7 @@ use crate::engine_sets::next;
 use crate::engine_sets::start;
 
 // The care places outside the cube of the rule in play before `until` that has the fewest of them, but some.
-fn fewest(care: &[u64], live: &[u64; 16], until: usize, cube: u64) -> u64
+fn fewest(care: &[u64], live: &[u64; 17], until: usize, cube: u64) -> u64
     requires { ⌜ (until ≤ length (now care)) × (length (now care) ≤ 1024) ⌝ }
 {
     let mut best: u32 = 65;
@@ -29,18 +29,20 @@ fn fewest(care: &[u64], live: &[u64; 16], until: usize, cube: u64) -> u64
     want
 }
 
-// The three lowest bits of the count of each place: bit p of each word belongs to place p.
+// The four lowest bits of the count of each place: bit p of each word belongs to place p.
 struct Low {
     pub ones: u64,
     pub twos: u64,
     pub fours: u64,
+    pub eights: u64,
 }
 
-// Adds 8 to the count of each of the places. Bit p of `high[k]` is bit k + 3 of the count of place p.
-fn count_eight(high: &mut [u64; 8], places: u64) {
+// Adds 16 to the count of each of the places. Bit p of `high[k]` is bit k + 4 of the count of place p, and no count reaches
+// 2^11; the array is longer than that so that the compiler leaves it in memory, which is quicker.
+fn count_sixteen(high: &mut [u64; 16], places: u64) {
     let mut carry = places;
     let mut k: usize = 0;
-    while k < 8 {
+    while k < 16 {
         if carry == 0 {
             return;
         }
@@ -51,37 +53,67 @@ fn count_eight(high: &mut [u64; 8], places: u64) {
     }
 }
 
-// Counts at each of the places the rules in play that care there.
-fn tally(care: &[u64], live: &[u64; 16], places: u64, low: Low, high: &mut [u64; 8]) -> Low
-    requires { ⌜ length (now care) ≤ 1024 ⌝ }
-{
-    let n = care.len();
-    let words = (n + 63) / 64;
-    let mut ones = low.ones;
-    let mut twos = low.twos;
-    let mut fours = low.fours;
-    let mut s = next(live, start(live), 0, n, words);
-    while s.at < n {
-        let i = s.at;
-        let x = care[i] & places;
-        let a = ones & x;
-        ones = ones ^ x;
-        let b = twos & a;
-        twos = twos ^ a;
-        if b != 0 {
-            let c = fours & b;
-            fours = fours ^ b;
-            if c != 0 {
-                count_eight(high, c);
-            }
-        }
-        s = next(live, s, i + 1, n, words);
+// Adds 4 to the count of each of the places.
+fn count_four(places: u64, low: Low, high: &mut [u64; 16]) -> Low {
+    let eight = low.fours & places;
+    let sixteen = low.eights & eight;
+    if sixteen != 0 {
+        count_sixteen(high, sixteen);
     }
     Low {
-        ones: ones,
-        twos: twos,
-        fours: fours,
+        ones: low.ones,
+        twos: low.twos,
+        fours: low.fours ^ places,
+        eights: low.eights ^ eight,
     }
+}
+
+// Adds 1 to the count of each of the places.
+fn count_one(places: u64, low: Low, high: &mut [u64; 16]) -> Low {
+    let two = low.ones & places;
+    let four = low.twos & two;
+    let sum = Low {
+        ones: low.ones ^ places,
+        twos: low.twos ^ two,
+        fours: low.fours,
+        eights: low.eights,
+    };
+    if four != 0 {
+        return count_four(four, sum, high);
+    }
+    sum
+}
+
+// Counts at each of the places those rules in play of the word w that care there.
+fn tally_word(care: &[u64], bits: u64, w: usize, places: u64, low: Low, high: &mut [u64; 16]) -> Low
+    requires { ⌜ w < 16 ⌝ }
+{
+    let mut sum = low;
+    let mut x = bits;
+    while x != 0 {
+        let i = w * 64 + u64::trailing_zeros(x) as usize;
+        if i >= care.len() {
+            return sum;
+        }
+        sum = count_one(care[i] & places, sum, high);
+        x = x & (x - 1);
+    }
+    sum
+}
+
+// Counts at each of the places the rules in play that care there.
+fn tally(care: &[u64], live: &[u64; 17], places: u64, low: Low, high: &mut [u64; 16]) -> Low {
+    let mut sum = low;
+    let mut some = live[0];
+    while some != 0 {
+        let w = u64::trailing_zeros(some) as usize;
+        if w >= 16 {
+            return sum;
+        }
+        sum = tally_word(care, live[w + 1], w, places, sum, high);
+        some = some & (some - 1);
+    }
+    sum
 }
 
 // The places with the highest count among `best`, of which `bits` are those whose count has one more bit.
@@ -93,14 +125,17 @@ fn among(best: u64, bits: u64) -> u64 {
 }
 
 // Of the places those with the highest count.
-fn highest(low: Low, high: &[u64; 8], places: u64) -> u64 {
+fn highest(low: Low, high: &[u64; 16], places: u64) -> u64 {
     let mut best = places;
-    let mut k: usize = 8;
+    let mut k: usize = 7;
     while k > 0 {
         k -= 1;
         best = among(best, high[k]);
     }
-    among(among(among(best, low.fours), low.twos), low.ones)
+    among(
+        among(among(among(best, low.eights), low.fours), low.twos),
+        low.ones,
+    )
 }
 
 // The places to split on, where rule i of the old list and rule j of the new are the first pair that differs, or are not
@@ -108,10 +143,10 @@ fn highest(low: Low, high: &[u64; 8], places: u64) -> u64 {
 // the cube, the places of the rule before them that has the fewest.
 pub(crate) fn wanted(
     oc: &[u64],
-    ol: &[u64; 16],
+    ol: &[u64; 17],
     i: usize,
     nc: &[u64],
-    nl: &[u64; 16],
+    nl: &[u64; 17],
     j: usize,
     cube: u64,
 ) -> u64
@@ -128,11 +163,12 @@ pub(crate) fn wanted(
         if places & (places - 1) == 0 {
             return places;
         }
-        let mut high = [0u64; 8];
+        let mut high = [0u64; 16];
         let none = Low {
             ones: 0,
             twos: 0,
             fours: 0,
+            eights: 0,
         };
         let old = tally(oc, ol, places, none, &mut high);
         let both = tally(nc, nl, places, old, &mut high);

@@ -59,7 +59,7 @@ fn only(
     care: &[u64],
     value: &[u64],
     decision: &[u16],
-    live: &[u64; 16],
+    live: &[u64; 17],
     miss: u16,
     s: Spot,
     d: u16,
@@ -67,7 +67,7 @@ fn only(
 ) -> bool
     requires { ⌜ Ready (now care) (now value) (now decision) × Within (now care) (now value) (now live) (cube .care) (cube .value)
         × (s .at ≤ length (now care)) × (s .at < length (now care) → member (now live) (s .at) ≡ true)
-        × (s .at < length (now care) → Pending (now live) (s .word) (s .left) (s .at + 1)) ⌝ }
+        × (s .at < length (now care) → Pending (now live) (s .word) (s .left) (s .rest) (s .at + 1)) ⌝ }
     ensures { λ r. ⌜ (r ≡ true → Only (now (care .entry)) (now (value .entry)) (now (decision .entry)) (now (live .entry)) miss
         (cube .care) (cube .value) (s .at) d) ⌝ }
 {
@@ -93,12 +93,12 @@ fn agree(
     oc: &[u64],
     ov: &[u64],
     od: &[u16],
-    ol: &[u64; 16],
+    ol: &[u64; 17],
     om: u16,
     nc: &[u64],
     nv: &[u64],
     nd: &[u16],
-    nl: &[u64; 16],
+    nl: &[u64; 17],
     nm: u16,
     cube: Cube,
 ) -> Pairing
@@ -139,8 +139,8 @@ fn agree(
             }
         } else {
             let d = od[i];
-            if only(oc, ov, od, ol, om, s, d, cube) {
-                if only(nc, nv, nd, nl, nm, t, d, cube) {
+            if only(nc, nv, nd, nl, nm, t, d, cube) {
+                if only(oc, ov, od, ol, om, s, d, cube) {
                     return Pairing::Same;
                 }
             }
@@ -156,12 +156,12 @@ fn unlike(
     oc: &[u64],
     ov: &[u64],
     od: &[u16],
-    ol: &[u64; 16],
+    ol: &[u64; 17],
     om: u16,
     nc: &[u64],
     nv: &[u64],
     nd: &[u16],
-    nl: &[u64; 16],
+    nl: &[u64; 17],
     nm: u16,
     h: u64,
     seen: bool,
@@ -188,12 +188,12 @@ pub(crate) fn differs(
     oc: &[u64],
     ov: &[u64],
     od: &[u16],
-    ol: &[u64; 16],
+    ol: &[u64; 17],
     om: u16,
     nc: &[u64],
     nv: &[u64],
     nd: &[u16],
-    nl: &[u64; 16],
+    nl: &[u64; 17],
     nm: u16,
     cube: Cube,
     seen: bool,
@@ -204,9 +204,9 @@ pub(crate) fn differs(
     ensures { λ r. ⌜ Decided (answerOf (now (oc .entry)) (now (ov .entry)) (now (od .entry)) (now (ol .entry)) om)
         (answerOf (now (nc .entry)) (now (nv .entry)) (now (nd .entry)) (now (nl .entry)) nm) (cube .care) (cube .value) r ⌝ }
 {
-    let mut o = [0u64; 16];
+    let mut o = [0u64; 17];
     narrow(oc, ov, ol, &mut o, cube);
-    let mut n = [0u64; 16];
+    let mut n = [0u64; 17];
     narrow(nc, nv, nl, &mut n, cube);
     let care = cube.care;
     let value = cube.value;

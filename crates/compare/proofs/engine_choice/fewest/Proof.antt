@@ -15,7 +15,7 @@ use Rattle.compare.proofs.engine_sets.next.Reads as next-reads
 use Rattle.compare.proofs.engine_sets.start.Reads as start-reads
 
 abbrev Inv-loop : tie.InvT-loop
-Inv-loop care live until cube best₀ want₀ words s₀ best want s = (s .at ≤ until) × (s .at < until → Pending live (s .word) (s .left) (s .at + 1))
+Inv-loop care live until cube best₀ want₀ words s₀ best want s = (s .at ≤ until) × (s .at < until → Pending live (s .word) (s .left) (s .rest) (s .at + 1))
 
 abbrev μ-loop : tie.MeasureT-loop
 μ-loop care live until cube best₀ want₀ words s₀ best want s = until - s .at

@@ -1,10 +1,6 @@
 use Prim.Native.Nat.{ℕ, zero, suc, _+_, _-_, _*_, _/_, _%_, _^_, _≤_, _<_}
-use mathlib.Core.Path.{_≡_, refl, sym, ap, _∙_}
-use mathlib.Core.List.{List}
-use mathlib.Core.Bool.{Bool, true, false, false≢true}
 use native.Mathlib.Omega.{arith}
 use borrow.Author.Needs.{needs}
-use lib.ListN.{length, getD}
 use Rattle.compare.proofs.engine_choice.highest.Statement.{statement}
 use Rattle.compare.proofs.engine_choice.highest.Tie as tie
 use Rattle.compare.proofs.engine_choice.highest.Reads as reads
@@ -12,7 +8,7 @@ use Rattle.compare.proofs.engine_choice.highest.Lts as lts
 use Rattle.compare.proofs.engine_choice.among.Reads as among-reads
 
 abbrev Inv-loop : tie.InvT-loop
-Inv-loop low high places best₀ k₀ best k = k ≤ 8
+Inv-loop low high places best₀ k₀ best k = k ≤ 7
 
 abbrev μ-loop : tie.MeasureT-loop
 μ-loop low high places best₀ k₀ best k = k
@@ -47,6 +43,9 @@ among-requires-3 c κs = search needs
 among-requires-4 : tie.Need-among-requires-4 Inv-loop μ-loop
 among-requires-4 c κs = search needs
 
+among-requires-5 : tie.Need-among-requires-5 Inv-loop μ-loop
+among-requires-5 c κs = search needs
+
 returns : tie.Need-returns Inv-loop μ-loop
 returns c = search needs
 
@@ -66,4 +65,5 @@ highest-spec =
     among-requires-2
     among-requires-3
     among-requires-4
+    among-requires-5
     returns)

@@ -1,61 +1,55 @@
-use Prim.Native.Nat.{ℕ, zero, suc, _+_, _-_, _*_, _/_, _%_, _^_, _≤_, _<_}
-use mathlib.Core.Path.{_≡_, refl, sym, ap, _∙_, subst}
-use mathlib.Core.List.{List}
-use mathlib.Core.Bool.{Bool, true, false, false≢true}
-use mathlib.Core.Logic.{⊎-elim}
+use Prim.Native.Nat.{ℕ, _+_, _-_, _*_, _/_, _%_, _^_, _≤_, _<_}
 use native.Mathlib.Omega.{arith}
 use borrow.Author.Needs.{needs}
-use lib.ListN.{length, getD}
-use Rattle.compare.specs.EngineSets.{Pending}
+use lib.Count.{trailing-le}
+use Rattle.compare.proofs.EngineWords.{fewer}
 use Rattle.compare.proofs.engine_choice.tally.Statement.{statement}
 use Rattle.compare.proofs.engine_choice.tally.Tie as tie
 use Rattle.compare.proofs.engine_choice.tally.Reads as reads
 use Rattle.compare.proofs.engine_choice.tally.Lts as lts
-use Rattle.compare.proofs.engine_choice.count_eight.Reads as count-eight-reads
-use Rattle.compare.proofs.engine_sets.next.Reads as next-reads
-use Rattle.compare.proofs.engine_sets.start.Reads as start-reads
+use Rattle.compare.proofs.engine_choice.tally_word.Reads as tally-word-reads
 
 abbrev Inv-loop : tie.InvT-loop
-Inv-loop care live places high₀ n words ones₀ twos₀ fours₀ s₀ high ones twos fours s = (s .at ≤ length care) × (s .at < length care → Pending live (s .word) (s .left) (s .at + 1))
+Inv-loop care live places high₀ sum₀ some₀ high sum some = Unit {0}
 
 abbrev μ-loop : tie.MeasureT-loop
-μ-loop care live places high₀ n words ones₀ twos₀ fours₀ s₀ high ones twos fours s = length care - s .at
+μ-loop care live places high₀ sum₀ some₀ high sum some = some
 
-add-words : tie.Need-add-words Inv-loop μ-loop
-add-words c = search needs
-
-start-requires : tie.Need-start-requires Inv-loop μ-loop
-start-requires c κs = search needs
-
-next-requires : tie.Need-next-requires Inv-loop μ-loop
-next-requires c κs = (c .start .ensures, omega arith, omega arith, omega arith)
+element-copy-out-some : tie.Need-element-copy-out-some Inv-loop μ-loop
+element-copy-out-some c = search needs
 
 loop-holds : tie.Need-loop-holds Inv-loop μ-loop
-loop-holds c = (c .next .ensures .0 .few, c .next .ensures .1)
+loop-holds c = tt
 
-mul-x : tie.Need-mul-x Inv-loop μ-loop
-mul-x c = search needs
-
-shared-slice-read-x : tie.Need-shared-slice-read-x Inv-loop μ-loop
-shared-slice-read-x c = search needs
-
-count-eight-requires : tie.Need-count-eight-requires Inv-loop μ-loop
-count-eight-requires c κs = search needs
-
-add-next : tie.Need-add-next Inv-loop μ-loop
-add-next c = search needs
-
-next-requires-2 : tie.Need-next-requires-2 Inv-loop μ-loop
-next-requires-2 c κs = let l = c .before .before .if1 .taken in (c .before .before .before .before .loop .inv .1 l, omega arith, omega arith, omega arith)
-
-loop-less : tie.Need-loop-less Inv-loop μ-loop
-loop-less c = let l = c .before .before .before .if1 .taken in omega (arith, c .next2 .ensures .0 .after)
-
-loop-again : tie.Need-loop-again Inv-loop μ-loop
-loop-again c = (c .next2 .ensures .0 .few, c .next2 .ensures .1)
+cast-w : tie.Need-cast-w Inv-loop μ-loop
+cast-w c = omega (arith, trailing-le 64 (c .before .loop .some))
 
 returns : tie.Need-returns Inv-loop μ-loop
 returns c = search needs
+
+add-tally-word : tie.Need-add-tally-word Inv-loop μ-loop
+add-tally-word c = search needs
+
+mul-tally-word : tie.Need-mul-tally-word Inv-loop μ-loop
+mul-tally-word c = search needs
+
+element-copy-out-tally-word : tie.Need-element-copy-out-tally-word Inv-loop μ-loop
+element-copy-out-tally-word c = search needs
+
+tally-word-requires : tie.Need-tally-word-requires Inv-loop μ-loop
+tally-word-requires c κs = search needs
+
+sub-some : tie.Need-sub-some Inv-loop μ-loop
+sub-some c = search needs
+
+loop-less : tie.Need-loop-less Inv-loop μ-loop
+loop-less c = fewer (c .before .before .before .before .before .loop .some) (c .before .before .before .before .loop-test .taken)
+
+loop-again : tie.Need-loop-again Inv-loop μ-loop
+loop-again c = tt
+
+returns-2 : tie.Need-returns-2 Inv-loop μ-loop
+returns-2 c = search needs
 
 pub tally-spec : {M : Type 1} → statement M
 tally-spec =
@@ -63,15 +57,15 @@ tally-spec =
     (tie.spec
     Inv-loop
     μ-loop
-    add-words
-    start-requires
-    next-requires
+    element-copy-out-some
     loop-holds
-    mul-x
-    shared-slice-read-x
-    count-eight-requires
-    add-next
-    next-requires-2
+    cast-w
+    returns
+    add-tally-word
+    mul-tally-word
+    element-copy-out-tally-word
+    tally-word-requires
+    sub-some
     loop-less
     loop-again
-    returns)
+    returns-2)

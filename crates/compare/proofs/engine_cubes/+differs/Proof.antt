@@ -10,7 +10,7 @@ use lib.Pow.{pow-pos}
 use Rattle.rules.specs.Words.{bit}
 use Rattle.compare.specs.EngineSets.{answerOf, Ready, Within, Narrowed}
 use Rattle.compare.specs.EngineCubes.{Alike, Decided}
-use Rattle.compare.proofs.EngineRules.{none-member}
+use Rattle.compare.proofs.EngineMembers.{none-member}
 use Rattle.compare.proofs.EngineHalves.{power, grows, low-valid, high-valid, say-at, say-same, say-full, say-found, say-both, still}
 use borrow.Fn.Kinds.{In}
 use borrow.Fn.PlainCycle.{Measures, is, falls, and}

@@ -17,7 +17,7 @@ use Rattle.compare.proofs.engine_sets.next.Reads as next-reads
 use Rattle.compare.proofs.engine_sets.start.Reads as start-reads
 
 abbrev Inv-loop : tie.InvT-loop
-Inv-loop oc ov od ol om nc nv nd nl nm cube n m old-words new-words from₀ to₀ s₀ t₀ from to s t = Step oc ov od ol om nc nv nd nl nm (cube .care) (cube .value) from to × Pending ol (s .word) (s .left) from × Pending nl (t .word) (t .left) to
+Inv-loop oc ov od ol om nc nv nd nl nm cube n m old-words new-words from₀ to₀ s₀ t₀ from to s t = Step oc ov od ol om nc nv nd nl nm (cube .care) (cube .value) from to × Pending ol (s .word) (s .left) (s .rest) from × Pending nl (t .word) (t .left) (t .rest) to
 
 abbrev μ-loop : tie.MeasureT-loop
 μ-loop oc ov od ol om nc nv nd nl nm cube n m old-words new-words from₀ to₀ s₀ t₀ from to s t = length oc - from
@@ -119,18 +119,18 @@ shared-slice-read-d c = omega (arith, c .before .before .before .before .before 
 
 -- src/engine_cubes.rt:142:16
 only-requires-3 : tie.Need-only-requires-3 Inv-loop μ-loop
-only-requires-3 c κs = (c .before .before .before .before .before .before .before .before .before .before .before .before .before .before .before .before .pre .0, c .before .before .before .before .before .before .before .before .before .before .before .before .before .before .before .before .pre .2, c .before .before .before .before .before .before .next .ensures .0 .few, c .before .before .before .before .before .before .next .ensures .0 .found, c .before .before .before .before .before .before .next .ensures .1)
+only-requires-3 c κs = (c .before .before .before .before .before .before .before .before .before .before .before .before .before .before .before .before .pre .1, c .before .before .before .before .before .before .before .before .before .before .before .before .before .before .before .before .pre .3, c .before .before .before .before .before .next2 .ensures .0 .few, c .before .before .before .before .before .next2 .ensures .0 .found, c .before .before .before .before .before .next2 .ensures .1)
 
 -- src/engine_cubes.rt:143:20
 only-requires-4 : tie.Need-only-requires-4 Inv-loop μ-loop
-only-requires-4 c κs = (c .before .before .before .before .before .before .before .before .before .before .before .before .before .before .before .before .before .before .pre .1, c .before .before .before .before .before .before .before .before .before .before .before .before .before .before .before .before .before .before .pre .3, c .before .before .before .before .before .before .before .next2 .ensures .0 .few, c .before .before .before .before .before .before .before .next2 .ensures .0 .found, c .before .before .before .before .before .before .before .next2 .ensures .1)
+only-requires-4 c κs = (c .before .before .before .before .before .before .before .before .before .before .before .before .before .before .before .before .before .before .pre .0, c .before .before .before .before .before .before .before .before .before .before .before .before .before .before .before .before .before .before .pre .2, c .before .before .before .before .before .before .before .before .next .ensures .0 .few, c .before .before .before .before .before .before .before .before .next .ensures .0 .found, c .before .before .before .before .before .before .before .before .next .ensures .1)
 
 -- src/engine_cubes.rt:144:21
 returns-6 : tie.Need-returns-6 Inv-loop μ-loop
 returns-6 c = λ e.
     step-only _ _ _ _ _ _ _ _ _ _ _ _ _ _ _
     (step-skip _ _ _ _ _ _ _ _ _ _ _ _ (c .before .before .before .before .before .before .before .before .before .before .before .loop .from) (c .before .before .before .before .before .before .before .before .before .before .before .loop .to) (c .before .before .before .before .before .before .before .before .before .before .next .result .at) (c .before .before .before .before .before .before .before .before .before .next2 .result .at) (c .before .before .before .before .before .before .before .before .before .before .before .loop .inv .0) (c .before .before .before .before .before .before .before .before .before .before .next .ensures .0 .after) (c .before .before .before .before .before .before .before .before .before .before .next .ensures .0 .few) (c .before .before .before .before .before .before .before .before .before .before .next .ensures .0 .none) (c .before .before .before .before .before .before .before .before .before .next2 .ensures .0 .after) (c .before .before .before .before .before .before .before .before .before .next2 .ensures .0 .few) (c .before .before .before .before .before .before .before .before .before .next2 .ensures .0 .none))
-    (c .before .before .before .only3 .ensures (c .before .before .if7 .taken)) (c .before .only4 .ensures (c .if8 .taken))
+    (c .before .only4 .ensures (c .if8 .taken)) (c .before .before .before .only3 .ensures (c .before .before .if7 .taken))
 
 -- src/engine_cubes.rt:147:13
 returns-7 : tie.Need-returns-7 Inv-loop μ-loop

@@ -15,7 +15,7 @@ use Rattle.compare.proofs.engine_sets.next.Reads as next-reads
 
 abbrev Inv-loop : tie.InvT-loop
 Inv-loop care value decision live miss d cube n words t₀ t =
-    Through care value decision live miss (cube .care) (cube .value) d (t₀ .at) (t .at) × (t .at ≤ length care) × (t .at < length care → member live (t .at) ≡ true) × (t .at < length care → Pending live (t .word) (t .left) (t .at + 1))
+    Through care value decision live miss (cube .care) (cube .value) d (t₀ .at) (t .at) × (t .at ≤ length care) × (t .at < length care → member live (t .at) ≡ true) × (t .at < length care → Pending live (t .word) (t .left) (t .rest) (t .at + 1))
 
 abbrev μ-loop : tie.MeasureT-loop
 μ-loop care value decision live miss d cube n words t₀ t = length care - t .at

@@ -17,7 +17,7 @@ use Rattle.compare.proofs.engine_sets.next.Reads as next-reads
 use Rattle.compare.proofs.engine_sets.start.Reads as start-reads
 
 abbrev Inv-loop : tie.InvT-loop
-Inv-loop care value decision live miss h n words s₀ s = (s .at ≤ length care) × (answerOf care value decision live miss h ≡ rest (hit care value live h) decision miss (length care) (s .at)) × (s .at < length care → member live (s .at) ≡ true) × (s .at < length care → Pending live (s .word) (s .left) (s .at + 1))
+Inv-loop care value decision live miss h n words s₀ s = (s .at ≤ length care) × (answerOf care value decision live miss h ≡ rest (hit care value live h) decision miss (length care) (s .at)) × (s .at < length care → member live (s .at) ≡ true) × (s .at < length care → Pending live (s .word) (s .left) (s .rest) (s .at + 1))
 
 abbrev μ-loop : tie.MeasureT-loop
 μ-loop care value decision live miss h n words s₀ s = length care - s .at

@@ -1,86 +1,80 @@
-use Prim.Native.Nat.{ℕ, zero, suc, _+_, _-_, _*_, _/_, _%_, _^_, _≤_, _<_, min}
-use mathlib.Core.Path.{_≡_, refl, sym, ap, _∙_, subst}
-use mathlib.Core.List.{List}
-use mathlib.Core.Bool.{Bool, true, false, false≢true}
-use mathlib.Core.Logic.{⊎-elim}
+use Prim.Native.Nat.{ℕ, _+_, _-_, _*_, _/_, _%_, _^_, _≤_, _<_, min}
+use mathlib.Core.Path.{_≡_, refl, sym, ap, _∙_}
+use mathlib.Core.Bool.{Bool, true, false}
 use native.Mathlib.Omega.{arith}
 use borrow.Author.Needs.{needs}
 use lib.Count.{trailing-le, trailingZeros}
-use lib.ListN.{length, getD, set, length-set}
-use Rattle.compare.specs.EngineSets.{member, hit, answerOf, Pending, Kept, Narrowed}
-use Rattle.compare.proofs.EngineRules.{none-member, kept-skip, add-in, drop-apart, kept-end, kept-cut}
-use Rattle.compare.proofs.EngineSieve.{sift-skip}
+use lib.ListN.{length}
+use Rattle.compare.proofs.EngineWords.{fewer}
+use Rattle.compare.proofs.EngineSieve.{Sieved, sieve-start, sieve-end, sieve-past, sieve-word, sieve-there, sieve-on, like-narrowed, like-kept}
 use Rattle.compare.proofs.engine_sets.narrow.Statement.{statement}
 use Rattle.compare.proofs.engine_sets.narrow.Tie as tie
 use Rattle.compare.proofs.engine_sets.narrow.Reads as reads
 use Rattle.compare.proofs.engine_sets.narrow.Lts as lts
+use Rattle.compare.proofs.engine_sets.put_word.Reads as put-word-reads
 use Rattle.compare.proofs.engine_sets.sift.Reads as sift-reads
 
 abbrev Inv-loop : tie.InvT-loop
-Inv-loop care value live out₀ cube n words w₀ out w = Kept care value live out (cube .care) (cube .value) (min (w * 64) (length care))
+Inv-loop care value live out₀ cube n words some₀ out some = Sieved care value live out (cube .care) (cube .value) some
 
 abbrev μ-loop : tie.MeasureT-loop
-μ-loop care value live out₀ cube n words w₀ out w = 16 - w
+μ-loop care value live out₀ cube n words some₀ out some = some
 
 add-words : tie.Need-add-words Inv-loop μ-loop
 add-words c = search needs
 
+element-copy-out-some : tie.Need-element-copy-out-some Inv-loop μ-loop
+element-copy-out-some c = search needs
+
 loop-holds : tie.Need-loop-holds Inv-loop μ-loop
-loop-holds c = let p = c .before .before .pre in record { sized = p .3; few = omega arith; below = λ k u. absurd (let f : ⊥ = omega arith in f); above = λ k u. p .4 k }
+loop-holds c = let p = c .before .before .before .pre in sieve-start _ _ _ _ _ _ (p .3) (p .4)
 
-mul-if1 : tie.Need-mul-if1 Inv-loop μ-loop
-mul-if1 c = search needs
+cast-w : tie.Need-cast-w Inv-loop μ-loop
+cast-w c = omega (arith, trailing-le 64 (c .before .loop .some))
 
-element-copy-out-if1 : tie.Need-element-copy-out-if1 Inv-loop μ-loop
-element-copy-out-if1 c = search needs
+returns : tie.Need-returns Inv-loop μ-loop
+returns c = sieve-past _ _ _ _ _ _ _ (c .before .before .loop .inv) ((length (c .before .before .before .before .before .before .args .care .now) + 63) / 64) (omega arith) (omega (arith, c .if1 .taken))
 
 sift-requires : tie.Need-sift-requires Inv-loop μ-loop
 sift-requires c κs =
     let a = c .before .before .before .before .before .before .before .args in
     let p = c .before .before .before .before .before .before .before .pre in
-    let L = c .before .before .before .before .loop in
-    let l : L .w * 64 < length (a .care .now) = omega (arith, c .before .before .before .loop-test .taken) in
-    let e : min (L .w * 64) (length (a .care .now)) ≡ L .w * 64 = omega arith in
-    let K : Kept (a .care .now) (a .value .now) (a .live .now) (L .out) (a .cube .care) (a .cube .value) (L .w * 64) =
-    subst (λ (x : ℕ). Kept (a .care .now) (a .value .now) (a .live .now) (L .out) (a .cube .care) (a .cube .value) x) e (L .inv) in
-    (p .0, p .1, p .2, l, K)
+    let L = c .before .before .before .loop in
+    let l : trailingZeros 64 (L .some) * 64 < length (a .care .now) = omega (arith, c .before .if1 .left) in
+    let S = L .inv in
+    (p .0, p .1, p .2, l, sieve-there _ _ _ _ _ _ _ S l (p .0), sieve-word _ _ _ _ _ _ _ S l (p .0))
 
-mul-out : tie.Need-mul-out Inv-loop μ-loop
-mul-out c = search needs
+put-word-requires : tie.Need-put-word-requires Inv-loop μ-loop
+put-word-requires c κs =
+    let a = c .before .before .before .before .before .before .before .before .before .args in
+    let p = c .before .before .before .before .before .before .before .before .before .pre in
+    let L = c .before .before .before .before .before .loop in
+    let l : trailingZeros 64 (L .some) * 64 < length (a .care .now) = omega (arith, c .before .before .before .if1 .left) in
+    let S = L .inv in
+    let K = sieve-word _ _ _ _ _ _ _ S l (p .0) in
+    (K .sized, omega (arith, p .0, l), K .above)
 
-element-write-out : tie.Need-element-write-out Inv-loop μ-loop
-element-write-out c = search needs
+returns-2 : tie.Need-returns-2 Inv-loop μ-loop
+returns-2 c = like-narrowed _ _ _ _ (c .before .put-word .ensures .1) _ _ _ (c .before .before .before .sift .ensures .0 (c .if2 .taken))
 
-returns : tie.Need-returns Inv-loop μ-loop
-returns c = c .before .sift .ensures .0 (c .if2 .taken)
-
-add-w : tie.Need-add-w Inv-loop μ-loop
-add-w c = search needs
+sub-some : tie.Need-sub-some Inv-loop μ-loop
+sub-some c = omega (arith, c .before .before .before .before .before .before .loop-test .taken)
 
 loop-less : tie.Need-loop-less Inv-loop μ-loop
-loop-less c = let p = c .before .before .before .before .before .before .pre in omega (arith, p .0, c .before .before .loop-test .taken)
+loop-less c = fewer (c .before .before .before .before .before .before .before .loop .some) (c .before .before .before .before .before .before .loop-test .taken)
 
 loop-again : tie.Need-loop-again Inv-loop μ-loop
 loop-again c =
-    let a = c .before .before .before .before .before .before .args in
-    let p = c .before .before .before .before .before .before .pre in
-    let L = c .before .before .before .loop in
-    let l : L .w * 64 < length (a .care .now) = omega (arith, c .before .before .loop-test .taken) in
-    let e : min (L .w * 64) (length (a .care .now)) ≡ L .w * 64 = omega arith in
-    let K : Kept (a .care .now) (a .value .now) (a .live .now) (L .out) (a .cube .care) (a .cube .value) (L .w * 64) =
-    subst (λ (x : ℕ). Kept (a .care .now) (a .value .now) (a .live .now) (L .out) (a .cube .care) (a .cube .value) x) e (L .inv) in
-    let q : min (L .w * 64 + 64) (length (a .care .now)) ≡ min ((L .w + 1) * 64) (length (a .care .now)) = omega arith in
-    subst (λ (x : ℕ). Kept (a .care .now) (a .value .now) (a .live .now) (c .if1 .out) (a .cube .care) (a .cube .value) x) q
-    (⊎-elim
-    (λ v. rw (v .4) (v .2 .ensures .1 (v .3 .left)))
-    (λ v. rw (v .1) (sift-skip _ _ _ _ _ _ (L .w) K (omega (arith, p .0)) (v .0 .left)))
-    (c .if1 .came))
+    let a = c .before .before .before .before .before .before .before .before .before .before .before .args in
+    let p = c .before .before .before .before .before .before .before .before .before .before .before .pre in
+    let L = c .before .before .before .before .before .before .before .loop in
+    let l : trailingZeros 64 (L .some) * 64 < length (a .care .now) = omega (arith, c .before .before .before .before .before .if1 .left) in
+    let S = L .inv in
+    let E = c .before .put-word .ensures in
+    sieve-on _ _ _ _ _ _ _ S l (p .0) _ (like-kept _ _ _ _ (E .1) _ _ _ _ (E .0) (c .before .before .before .sift .ensures .1 (c .if2 .left)))
 
-returns-2 : tie.Need-returns-2 Inv-loop μ-loop
-returns-2 c =
-    let a = c .before .before .before .before .args in
-    let L = c .before .loop in
-    kept-end (a .care .now) (a .value .now) (a .live .now) (a .cube .care) (a .cube .value) (min (L .w * 64) (length (a .care .now))) (L .out) (L .inv) (omega arith)
+returns-3 : tie.Need-returns-3 Inv-loop μ-loop
+returns-3 c = sieve-end _ _ _ _ _ _ _ (c .before .loop .inv) (c .loop-test .left)
 
 pub narrow-spec : {M : Type 1} → statement M
 narrow-spec =
@@ -89,14 +83,14 @@ narrow-spec =
     Inv-loop
     μ-loop
     add-words
+    element-copy-out-some
     loop-holds
-    mul-if1
-    element-copy-out-if1
-    sift-requires
-    mul-out
-    element-write-out
+    cast-w
     returns
-    add-w
+    sift-requires
+    put-word-requires
+    returns-2
+    sub-some
     loop-less
     loop-again
-    returns-2)
+    returns-3)

@@ -5,7 +5,7 @@ use mathlib.Core.Bool.{Bool, true, false, false≢true}
 use native.Mathlib.Omega.{arith}
 use borrow.Author.Needs.{needs}
 use lib.ListN.{length, getD}
-use Rattle.compare.proofs.EngineRules.{none-member}
+use Rattle.compare.proofs.EngineMembers.{none-member}
 use Rattle.compare.proofs.engine_sets.narrow_to.Statement.{statement}
 use Rattle.compare.proofs.engine_sets.narrow_to.Tie as tie
 use Rattle.compare.proofs.engine_sets.narrow_to.Reads as reads

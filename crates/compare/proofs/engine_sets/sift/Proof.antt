@@ -7,9 +7,9 @@ use native.Mathlib.Omega.{arith}
 use borrow.Author.Needs.{needs}
 use lib.Count.{trailing-le, trailingZeros}
 use lib.ListN.{length, getD, set, length-set}
-use Rattle.compare.specs.EngineSets.{member, hit, answerOf, Pending, Kept, Narrowed}
-use Rattle.compare.proofs.EngineRules.{none-member, kept-skip, add-in, drop-apart, kept-end, kept-cut}
-use Rattle.compare.proofs.EngineWords.{Sought, sought-start, sought-end, found, found-after, found-none, found-rest, some-place}
+use Rattle.compare.specs.EngineSets.{member, put, Left, Kept, Narrowed}
+use Rattle.compare.proofs.EngineRules.{kept-skip, add-in, drop-apart, kept-end, kept-cut}
+use Rattle.compare.proofs.EngineWords.{whole-word, left-end, found, found-after, found-none, found-left, some-place}
 use Rattle.compare.proofs.EngineSieve.{more-of, sift-start, sift-none, sift-on}
 use Rattle.compare.proofs.engine_sets.sift.Statement.{statement}
 use Rattle.compare.proofs.engine_sets.sift.Tie as tie
@@ -18,10 +18,13 @@ use Rattle.compare.proofs.engine_sets.sift.Lts as lts
 use Rattle.compare.proofs.engine_sets.known.Reads as known-reads
 
 abbrev Inv-loop : tie.InvT-loop
-Inv-loop care value live out w cube n x₀ keep₀ from₀ x keep from = Kept care value live (set out w keep) (cube .care) (cube .value) from × Pending live w x from
+Inv-loop care value live out w cube n x₀ keep₀ from₀ x keep from = Kept care value live (put out w keep) (cube .care) (cube .value) from × Left live w x from
 
 abbrev μ-loop : tie.MeasureT-loop
 μ-loop care value live out w cube n x₀ keep₀ from₀ x keep from = w * 64 + 64 - from
+
+add-x : tie.Need-add-x Inv-loop μ-loop
+add-x c = search needs
 
 mul-x : tie.Need-mul-x Inv-loop μ-loop
 mul-x c = search needs
@@ -37,7 +40,7 @@ loop-holds c =
     let a = c .before .before .before .args in
     let p = c .before .before .before .pre in
     let w : a .w < 16 = omega (arith, p .0, p .3) in
-    (sift-start _ _ _ _ _ _ _ w (p .4), record { low = omega arith; high = omega arith; few = w; rest = (let z : a .w * 64 - a .w * 64 ≡ 0 = omega arith in rw z (omega arith)) })
+    (sift-start _ _ _ _ _ _ _ w (p .5), whole-word _ _ w (p .4))
 
 known-requires : tie.Need-known-requires Inv-loop μ-loop
 known-requires c κs = search needs
@@ -57,7 +60,7 @@ returns c =
     let L = c .before .before .before .loop in
     let p = c .before .before .before .before .before .before .before .pre in
     let K = L .inv .0 in
-    let S = sought-start _ _ _ _ (L .inv .1) in
+    let S = L .inv .1 in
     let u = some-place (L .x) (c .before .known .ensures .1) (c .before .before .loop-test .taken) in
     (λ e. sift-none _ _ _ _ _ _ _ K (a .w * 64 + trailingZeros 64 (L .x)) (omega arith) (found-none _ _ _ _ S u), λ e. absurd (false≢true (sym e)))
 
@@ -94,16 +97,16 @@ returns-2 c =
     let L = c .before .before .before .before .before .before .before .before .before .before .before .before .loop in
     let p = c .before .before .before .before .before .before .before .before .before .before .before .before .before .before .before .before .pre in
     let K = L .inv .0 in
-    let S = sought-start _ _ _ _ (L .inv .1) in
+    let S = L .inv .1 in
     let u = some-place (L .x) (c .before .before .before .before .before .before .before .before .before .before .known .ensures .1) (c .before .before .before .before .before .before .before .before .before .before .before .loop-test .taken) in
     let l : a .w * 64 + trailingZeros 64 (L .x) < length (a .care .now) = omega (arith, c .before .before .before .before .before .before .before .before .before .if1 .left) in
     let i : ℕ = a .w * 64 + trailingZeros 64 (L .x) in
     let w : a .w < 16 = omega (arith, p .0, p .3) in
     let T = kept-skip _ _ _ _ _ (L .from) _ (a .w * 64 + trailingZeros 64 (L .x)) K (found-after _ _ _ _ S u) (omega arith) (found-none _ _ _ _ S u) in
     let m = found _ _ _ _ S u in
-    let more = more-of (a .out .now) (a .w) (p .4 .sized) w (L .keep) (trailingZeros 64 (L .x)) u in
+    let more = more-of (a .out .now) (a .w) (p .5 .sized) w (L .keep) (trailingZeros 64 (L .x)) u in
     let q = c .before .before .before .before .if2 .taken in
-    (λ e. kept-cut _ _ _ _ _ _ (a .w * 64 + trailingZeros 64 (L .x)) (add-in _ _ _ _ _ (a .w * 64 + trailingZeros 64 (L .x)) (set (a .out .now) (a .w) (L .keep)) _ T l m q more) (p .2) m q (c .if3 .taken), λ e. absurd (false≢true (sym e)))
+    (λ e. kept-cut _ _ _ _ _ _ (a .w * 64 + trailingZeros 64 (L .x)) (add-in _ _ _ _ _ (a .w * 64 + trailingZeros 64 (L .x)) (put (a .out .now) (a .w) (L .keep)) _ T l m q more) (p .2) m q (c .if3 .taken), λ e. absurd (false≢true (sym e)))
 
 sub-x : tie.Need-sub-x Inv-loop μ-loop
 sub-x c = omega (arith, c .before .before .before .before .before .before .before .loop-test .taken)
@@ -117,7 +120,7 @@ loop-less c =
     let L = c .before .before .before .before .before .before .before .before .loop in
     let p = c .before .before .before .before .before .before .before .before .before .before .before .before .pre in
     let K = L .inv .0 in
-    let S = sought-start _ _ _ _ (L .inv .1) in
+    let S = L .inv .1 in
     let u = some-place (L .x) (c .before .before .before .before .before .before .known .ensures .1) (c .before .before .before .before .before .before .before .loop-test .taken) in
     omega (arith, found-after _ _ _ _ S u, L .inv .1 .high)
 
@@ -127,19 +130,19 @@ loop-again c =
     let L = c .before .before .before .before .before .before .before .before .loop in
     let p = c .before .before .before .before .before .before .before .before .before .before .before .before .pre in
     let K = L .inv .0 in
-    let S = sought-start _ _ _ _ (L .inv .1) in
+    let S = L .inv .1 in
     let u = some-place (L .x) (c .before .before .before .before .before .before .known .ensures .1) (c .before .before .before .before .before .before .before .loop-test .taken) in
     let l : a .w * 64 + trailingZeros 64 (L .x) < length (a .care .now) = omega (arith, c .before .before .before .before .before .if1 .left) in
     let i : ℕ = a .w * 64 + trailingZeros 64 (L .x) in
     let w : a .w < 16 = omega (arith, p .0, p .3) in
     let T = kept-skip _ _ _ _ _ (L .from) _ (a .w * 64 + trailingZeros 64 (L .x)) K (found-after _ _ _ _ S u) (omega arith) (found-none _ _ _ _ S u) in
     let m = found _ _ _ _ S u in
-    let more = more-of (a .out .now) (a .w) (p .4 .sized) w (L .keep) (trailingZeros 64 (L .x)) u in (
+    let more = more-of (a .out .now) (a .w) (p .5 .sized) w (L .keep) (trailingZeros 64 (L .x)) u in (
       ⊎-elim
-          (λ v. rw (v .5) (add-in _ _ _ _ _ (a .w * 64 + trailingZeros 64 (L .x)) (set (a .out .now) (a .w) (L .keep)) _ T l m (v .0 .taken) more))
-          (λ v. rw (v .1) (drop-apart _ _ _ _ _ (a .w * 64 + trailingZeros 64 (L .x)) (set (a .out .now) (a .w) (L .keep)) T l (v .0 .left)))
+          (λ v. rw (v .5) (add-in _ _ _ _ _ (a .w * 64 + trailingZeros 64 (L .x)) (put (a .out .now) (a .w) (L .keep)) _ T l m (v .0 .taken) more))
+          (λ v. rw (v .1) (drop-apart _ _ _ _ _ (a .w * 64 + trailingZeros 64 (L .x)) (put (a .out .now) (a .w) (L .keep)) T l (v .0 .left)))
           (c .if2 .came),
-      found-rest _ _ _ _ S u,
+      found-left _ _ _ _ S u,
     )
 
 returns-3 : tie.Need-returns-3 Inv-loop μ-loop
@@ -148,8 +151,8 @@ returns-3 c =
     let L = c .before .loop in
     let p = c .before .before .before .before .before .pre in
     let K = L .inv .0 in
-    let S = sought-start _ _ _ _ (L .inv .1) in
-    (λ e. absurd (false≢true e), λ e. sift-on _ _ _ _ _ _ _ K (a .w * 64 + 64) (L .inv .1 .high) (sought-end _ _ _ _ S (c .loop-test .left)))
+    let S = L .inv .1 in
+    (λ e. absurd (false≢true e), λ e. sift-on _ _ _ _ _ _ _ K (a .w * 64 + 64) (L .inv .1 .high) (left-end _ _ _ _ S (c .loop-test .left)))
 
 pub sift-spec : {M : Type 1} → statement M
 sift-spec =
@@ -157,6 +160,7 @@ sift-spec =
     (tie.spec
     Inv-loop
     μ-loop
+    add-x
     mul-x
     element-copy-out-x
     mul-from

@@ -1,20 +1,16 @@
 use Prim.Native.Nat.{ℕ, zero, suc, _+_, _-_, _*_, _/_, _%_, _^_, _≤_, _<_}
-use mathlib.Core.Path.{_≡_, refl, sym, ap, _∙_}
-use mathlib.Core.List.{List}
-use mathlib.Core.Bool.{Bool, true, false, false≢true}
 use native.Mathlib.Omega.{arith}
 use borrow.Author.Needs.{needs}
-use lib.ListN.{length, getD}
-use Rattle.compare.proofs.engine_choice.count_eight.Statement.{statement}
-use Rattle.compare.proofs.engine_choice.count_eight.Tie as tie
-use Rattle.compare.proofs.engine_choice.count_eight.Reads as reads
-use Rattle.compare.proofs.engine_choice.count_eight.Lts as lts
+use Rattle.compare.proofs.engine_choice.count_sixteen.Statement.{statement}
+use Rattle.compare.proofs.engine_choice.count_sixteen.Tie as tie
+use Rattle.compare.proofs.engine_choice.count_sixteen.Reads as reads
+use Rattle.compare.proofs.engine_choice.count_sixteen.Lts as lts
 
 abbrev Inv-loop : tie.InvT-loop
-Inv-loop high₀ places carry₀ k₀ high carry k = k ≤ 8
+Inv-loop high₀ places carry₀ k₀ high carry k = k ≤ 16
 
 abbrev μ-loop : tie.MeasureT-loop
-μ-loop high₀ places carry₀ k₀ high carry k = 8 - k
+μ-loop high₀ places carry₀ k₀ high carry k = 16 - k
 
 loop-holds : tie.Need-loop-holds Inv-loop μ-loop
 loop-holds c = search needs
@@ -52,8 +48,8 @@ loop-again c = search needs
 returns-2 : tie.Need-returns-2 Inv-loop μ-loop
 returns-2 c = search needs
 
-pub count-eight-spec : {M : Type 1} → statement M
-count-eight-spec =
+pub count-sixteen-spec : {M : Type 1} → statement M
+count-sixteen-spec =
     tie.close
     (tie.spec
     Inv-loop
