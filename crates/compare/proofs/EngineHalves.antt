@@ -1,11 +1,11 @@
 -- Laws of a cube's two halves, and of what is decided of the cube from what is decided of them.
-use Prim.Native.Nat.{ℕ, zero, suc, _+_, _-_, _*_, _/_, _%_, _^_, _≤_, _<_, min, max}
-use mathlib.Core.Path.{_≡_, refl, sym, ap, ap₂, _∙_, subst}
+use Prim.Native.Nat.{ℕ, zero, _+_, _-_, _*_, _%_, _^_, _<_, min, max}
+use mathlib.Core.Path.{_≡_, sym, ap, ap₂, _∙_, subst}
 use mathlib.Core.Logic.{⊎-elim, inl, inr, _⊎_}
 use native.Mathlib.Omega.{arith}
 use native.Mathlib.Nat.{mod-eq-of-lt, zero-div}
 use lib.Bits.{bitAnd, bitOr, and-mask, or-disjoint, or-zero-r}
-use lib.Pow.{shl-exact, pow-pos}
+use lib.Pow.{shl-exact}
 use Rattle.compare.specs.declared.engine.Found.{Found}
 use Rattle.compare.specs.declared.engine.Found.the-variants.{At, Nothing}
 use Rattle.rules.specs.Words.{bit}

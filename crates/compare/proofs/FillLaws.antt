@@ -1,10 +1,10 @@
 -- Laws of the loop that fills the result slices: one for each way that it goes.
-use Prim.Native.Nat.{ℕ, zero, suc, _+_, _-_, _≤_, _<_}
+use Prim.Native.Nat.{ℕ, suc, _+_, _-_, _≤_, _<_}
 use mathlib.Core.Path.{_≡_, refl, sym, ap, ap₂, _∙_}
 use mathlib.Core.List.{List, [], _∷_, _++_, map, map-append, append-assoc}
 use native.Mathlib.Omega.{arith}
 use native.Mathlib.Numerals.{add-one}
-use lib.ListN.{length, getD, take, drop, set, length-append, length-set, length-map}
+use lib.ListN.{length, getD, drop, set, length-append, length-set, length-map}
 use lib.Seq.{drop-cons, set-at}
 use Rattle.rules.specs.Replies.{Gives, passed}
 use Rattle.compare.specs.declared.Compared.{Compared}

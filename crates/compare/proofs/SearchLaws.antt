@@ -1,11 +1,10 @@
 -- Laws of the search for the least difference, of the end of a run, and of the run at a difference.
-use Prim.Native.Nat.{ℕ, zero, suc, _+_, _-_, _^_, _≤_, _<_, min}
+use Prim.Native.Nat.{ℕ, suc, _+_, _-_, _≤_, _<_, min}
 use mathlib.Core.Path.{_≡_, refl, sym, ap, _∙_, subst}
-use mathlib.Core.List.{List, [], _∷_}
+use mathlib.Core.List.{[], _∷_}
 use native.Mathlib.Omega.{arith}
 use native.Mathlib.Decide.{decLt, decLe}
-use Rattle.rules.specs.declared.Rule.{Rule}
-use Rattle.rules.specs.Rules.{first, answer, noMatch}
+use Rattle.rules.specs.Rules.{first}
 use Rattle.rules.specs.Slices.{rulesOf}
 use Rattle.compare.specs.declared.engine.Found.{Found}
 use Rattle.compare.specs.Search.{Listed, LeastIn, Lasts}

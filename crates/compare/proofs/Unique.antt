@@ -1,10 +1,8 @@
 -- The comparison's promise leaves no second answer, and no second contents of the result slices.
 use mathlib.Core.Path.{_≡_, refl, sym, ap, _∙_}
-use mathlib.Core.List.{List, [], _∷_}
+use mathlib.Core.List.{List}
 use Prim.Native.Nat.{ℕ}
 use native.Mathlib.Omega.{arith}
-use Rattle.rules.specs.declared.Wire.{Wire}
-use Rattle.rules.specs.Replies.{Gives}
 use Rattle.rules.proofs.ReplyLaws.{one-refusal, gives-refuses}
 use Rattle.compare.specs.declared.Ending.{Ending}
 use Rattle.compare.specs.declared.Compared.{Compared}

@@ -2,8 +2,7 @@ use Rattle.compare.proofs.AnswerLaws.{Past, past-none, past-hit, past-m
 use Rattle.rules.specs.Slices.{rulesOf}
 use lib.ListN.{length}
 use borrow.Author.Needs.{needs}
-use Prim.Native.Nat.{ℕ, zero, suc, _+_, _-_, _*_, _/_, _%_, _^_, _≤_, _<_}
-use mathlib.Core.Path.{_≡_, refl, sym, ap, _∙_}
+use Prim.Native.Nat.{_-_, _≤_}
 use native.Mathlib.Omega.{arith}
 use Rattle.compare.proofs.answers.answer_at.Statement.{statement}
 use Rattle.compare.proofs.answers.answer_at.Tie as tie

@@ -1,9 +1,7 @@
-use Prim.Native.Nat.{ℕ, zero, suc, _+_, _-_, _*_, _/_, _%_, _^_, _≤_, _<_}
-use mathlib.Core.Path.{_≡_, refl, sym, ap, _∙_, subst}
-use mathlib.Core.List.{List}
+use Prim.Native.Nat.{ℕ, zero, _+_, _-_, _<_}
+use mathlib.Core.Path.{_≡_, refl}
 use native.Mathlib.Omega.{arith}
 use borrow.Author.Needs.{needs}
-use lib.Bits.{bitAnd}
 use lib.Pow.{pow-pos}
 use Rattle.compare.proofs.EngineMembers.{none-member}
 use Rattle.compare.proofs.EngineHalves.{power}

@@ -1,11 +1,7 @@
-use Prim.Native.Nat.{ℕ, zero, suc, _+_, _-_, _*_, _/_, _%_, _^_, _≤_, _<_}
-use mathlib.Core.Path.{_≡_, refl, sym, ap, _∙_, subst}
-use mathlib.Core.List.{List}
-use mathlib.Core.Bool.{Bool, true, false, false≢true}
-use mathlib.Core.Logic.{⊎-elim}
+use Prim.Native.Nat.{zero, _-_}
+use mathlib.Core.Path.{refl}
 use native.Mathlib.Omega.{arith}
 use borrow.Author.Needs.{needs}
-use lib.ListN.{length, getD}
 use Rattle.compare.specs.EngineSets.{answerOf}
 use Rattle.compare.proofs.EngineBlocks.{Way, way-start, way-step, way-differ, way-zero, way-one, way-end, bit-one, bit-zero}
 use Rattle.compare.proofs.engine.descend.Statement.{statement}

@@ -1,11 +1,4 @@
-use Prim.Native.Nat.{ℕ, zero, suc, _+_, _-_, _*_, _/_, _%_, _^_, _≤_, _<_}
-use mathlib.Core.Path.{_≡_, refl, sym, ap, _∙_, subst}
-use mathlib.Core.List.{List}
-use mathlib.Core.Bool.{Bool, true, false, false≢true}
-use mathlib.Core.Logic.{⊎-elim}
-use native.Mathlib.Omega.{arith}
-use borrow.Author.Needs.{needs}
-use lib.ListN.{length, getD}
+use Prim.Native.Nat.{_-_}
 use Rattle.compare.proofs.EngineWhole.{listed-ready, whole}
 use Rattle.compare.proofs.EngineBlocks.{least-width}
 use Rattle.compare.proofs.engine.least_from.Statement.{statement}

@@ -1,11 +1,7 @@
-use Prim.Native.Nat.{ℕ, zero, suc, _+_, _-_, _*_, _/_, _%_, _^_, _≤_, _<_}
-use mathlib.Core.Path.{_≡_, refl, sym, ap, _∙_, subst}
-use mathlib.Core.List.{List}
-use mathlib.Core.Bool.{Bool, true, false, false≢true}
-use mathlib.Core.Logic.{⊎-elim}
-use native.Mathlib.Omega.{arith}
+use Prim.Native.Nat.{ℕ, _+_, _-_, _/_, _^_, _<_}
+use mathlib.Core.Path.{_≡_}
+use mathlib.Core.Bool.{true, false, false≢true}
 use borrow.Author.Needs.{needs}
-use lib.ListN.{length, getD}
 use Rattle.compare.proofs.EngineBlocks.{from-valid, block-cube, lower-at, lower-none}
 use Rattle.compare.proofs.engine.lower.Statement.{statement}
 use Rattle.compare.proofs.engine.lower.Tie as tie

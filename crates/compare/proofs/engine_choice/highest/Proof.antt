@@ -1,5 +1,4 @@
-use Prim.Native.Nat.{ℕ, zero, suc, _+_, _-_, _*_, _/_, _%_, _^_, _≤_, _<_}
-use native.Mathlib.Omega.{arith}
+use Prim.Native.Nat.{_-_, _≤_}
 use borrow.Author.Needs.{needs}
 use Rattle.compare.proofs.engine_choice.highest.Statement.{statement}
 use Rattle.compare.proofs.engine_choice.highest.Tie as tie

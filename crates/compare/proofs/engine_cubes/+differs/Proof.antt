@@ -1,15 +1,10 @@
-use Prim.Native.Nat.{ℕ, zero, suc, _+_, _-_, _*_, _/_, _%_, _^_, _≤_, _<_}
-use mathlib.Core.Path.{_≡_, refl, sym, ap, ap₂, _∙_, subst}
-use mathlib.Core.List.{List}
-use mathlib.Core.Bool.{Bool, true, false, false≢true}
+use Prim.Native.Nat.{ℕ, _+_, _-_, _*_, _%_, _^_, _<_}
+use mathlib.Core.Path.{_≡_, refl, sym, ap, _∙_, subst}
+use mathlib.Core.Bool.{true, false, false≢true}
 use native.Mathlib.Omega.{arith}
 use borrow.Author.Needs.{needs}
-use lib.ListN.{length, getD}
 use lib.Bits.{bitAnd, bitOr}
 use lib.Pow.{pow-pos}
-use Rattle.rules.specs.Words.{bit}
-use Rattle.compare.specs.EngineSets.{answerOf, Ready, Within, Narrowed}
-use Rattle.compare.specs.EngineCubes.{Alike, Decided}
 use Rattle.compare.proofs.EngineMembers.{none-member}
 use Rattle.compare.proofs.EngineHalves.{power, grows, low-valid, high-valid, say-at, say-same, say-full, say-found, say-both, still}
 use borrow.Fn.Kinds.{In}

@@ -1,10 +1,6 @@
-use Prim.Native.Nat.{ℕ, zero, suc, _+_, _-_, _*_, _/_, _%_, _^_, _≤_, _<_}
-use mathlib.Core.Path.{_≡_, refl, sym, ap, _∙_}
-use mathlib.Core.List.{List}
-use mathlib.Core.Bool.{Bool, true, false, false≢true}
-use native.Mathlib.Omega.{arith}
+use Prim.Native.Nat.{_-_}
+use mathlib.Core.Path.{refl}
 use borrow.Author.Needs.{needs}
-use lib.ListN.{length, getD}
 use Rattle.compare.proofs.EngineMembers.{none-member}
 use Rattle.compare.proofs.engine_sets.narrow_to.Statement.{statement}
 use Rattle.compare.proofs.engine_sets.narrow_to.Tie as tie

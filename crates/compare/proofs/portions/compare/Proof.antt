@@ -1,7 +1,7 @@
 use Rattle.compare.proofs.VerdictLaws.{old-listed, new-listed, stopped-lists, lists-passed, stopped-results, portion-ready, went-on}
 use Rattle.rules.specs.Replies.{verdictReply}
 use mathlib.Core.List.{[]}
-use mathlib.Core.Path.{_≡_, refl, sym, ap, _∙_}
+use mathlib.Core.Path.{sym, ap, _∙_}
 use borrow.Author.Needs.{needs}
 use Rattle.compare.proofs.portions.compare.Statement.{statement}
 use Rattle.compare.proofs.portions.compare.Tie as tie

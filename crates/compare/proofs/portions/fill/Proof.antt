@@ -4,8 +4,8 @@ use Rattle.rules.specs.Rules.{answer}
 use Rattle.rules.specs.Slices.{rulesOf}
 use lib.ListN.{length, set, length-set}
 use lib.Pow.{pow-mono}
-use Prim.Native.Nat.{ℕ, zero, suc, _+_, _-_, _*_, _/_, _%_, _^_, _≤_, _<_}
-use mathlib.Core.Path.{_≡_, refl, sym, ap, _∙_}
+use Prim.Native.Nat.{_-_, _^_, _≤_, _<_}
+use mathlib.Core.Path.{refl, _∙_}
 use native.Mathlib.Omega.{arith}
 use borrow.Author.Needs.{needs}
 use Rattle.compare.proofs.portions.fill.Statement.{statement}

@@ -1,6 +1,5 @@
 use Rattle.rules.proofs.ReplyLaws.{verdict-stop, fine-next}
-use mathlib.Core.Path.{_≡_, refl, sym, ap, _∙_}
-use native.Mathlib.Omega.{arith}
+use mathlib.Core.Path.{sym, _∙_}
 use borrow.Author.Needs.{needs}
 use Rattle.compare.proofs.portions.lists_verdict.Statement.{statement}
 use Rattle.compare.proofs.portions.lists_verdict.Tie as tie

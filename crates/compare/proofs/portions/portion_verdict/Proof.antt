@@ -1,6 +1,5 @@
 use Rattle.compare.proofs.VerdictLaws.{portion-six, portion-two-lasts, portion-two-olds, portion-two-news, portion-seven, portion-fine}
-use mathlib.Core.Path.{_≡_, refl, sym, ap, _∙_}
-use native.Mathlib.Omega.{arith}
+use mathlib.Core.Path.{sym, _∙_}
 use borrow.Author.Needs.{needs}
 use Rattle.compare.proofs.portions.portion_verdict.Statement.{statement}
 use Rattle.compare.proofs.portions.portion_verdict.Tie as tie

@@ -1,7 +1,5 @@
 use Rattle.compare.proofs.SearchLaws.{run-step}
-use Prim.Native.Nat.{ℕ, zero, suc, _+_, _-_, _*_, _/_, _%_, _^_, _≤_, _<_}
-use mathlib.Core.Path.{_≡_, refl, sym, ap, _∙_}
-use native.Mathlib.Omega.{arith}
+use Prim.Native.Nat.{_-_}
 use borrow.Author.Needs.{needs}
 use Rattle.compare.proofs.runs.run_at.Statement.{statement}
 use Rattle.compare.proofs.runs.run_at.Tie as tie

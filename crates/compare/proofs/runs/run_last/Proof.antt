@@ -1,6 +1,5 @@
 use Rattle.compare.proofs.SearchLaws.{nothing-listed, later, lasts-at, lasts-all}
-use Prim.Native.Nat.{ℕ, zero, suc, _+_, _-_, _*_, _/_, _%_, _^_, _≤_, _<_}
-use mathlib.Core.Path.{_≡_, refl, sym, ap, _∙_}
+use Prim.Native.Nat.{_-_}
 use native.Mathlib.Omega.{arith}
 use borrow.Author.Needs.{needs}
 use Rattle.compare.proofs.runs.run_last.Statement.{statement}
