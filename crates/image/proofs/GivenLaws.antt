@@ -12,7 +12,6 @@ use borrow.Author.Tests.{eq-eqb, ne-eqb, le-leb, lt-leb, leb-true}
 use Rattle.rules.specs.declared.Rule.{Rule}
 use Rattle.rules.specs.declared.Refusal.{Refusal}
 use Rattle.rules.specs.declared.Verdict.{Verdict}
-use Rattle.rules.specs.Rules.{rule}
 use Rattle.rules.specs.Replies.{Refuses, passed, need, _then_, verdictReply}
 use Rattle.rules.specs.Checks.{widthCheck, lengthsCheck, sizeCheck, rulesCheck, roomCheck}
 use Rattle.rules.specs.Calls.{checkList}

@@ -1,7 +1,7 @@
 -- Laws of the public calls: each check in turn, and from what the inner functions leave to what is promised of each slice.
-use mathlib.Core.Path.{_≡_, refl, sym, ap, ap₂, _∙_, subst}
+use mathlib.Core.Path.{_≡_, refl, sym, ap, ap₂, _∙_}
 use mathlib.Core.List.{List, [], _∷_, _++_, map, map-append}
-use mathlib.Core.Bool.{Bool, true, false, _&&_}
+use mathlib.Core.Bool.{true}
 use Prim.Native.Nat.{ℕ, zero, suc, _+_, _-_, _≤_, _<_}
 use native.Mathlib.Omega.{arith}
 use lib.Dec.{eqb, leb}
@@ -15,7 +15,7 @@ use Rattle.rules.specs.Replies.{Reply, Gives, Refuses, passed, need, _then_, re
 use Rattle.rules.specs.Checks.{lengthsCheck, roomCheck}
 use Rattle.rules.specs.Calls.{checkList}
 use Rattle.rules.proofs.Tests.{and-true, and-on, and-off, true-and, eqb-yes}
-use Rattle.rules.proofs.ReplyLaws.{then-next, then-stop, then-refuses, then-assoc, then-second, need-yes, need-no, need-then, need-passed, refused-stop}
+use Rattle.rules.proofs.ReplyLaws.{then-next, then-refuses, then-assoc, then-second, need-yes, need-no, need-then, need-passed, refused-stop}
 use Rattle.rules.proofs.SliceLaws.{rules-length, rules-care, rules-value, rules-decision}
 use Rattle.rules.proofs.CheckLaws.{Sound, list-sound}
 use Rattle.weaving.specs.declared.Counted.{Counted}
@@ -24,7 +24,7 @@ use Rattle.weaving.specs.declared.Woven.{Woven}
 use Rattle.weaving.specs.Runs.{runs, runSizes}
 use Rattle.weaving.specs.Weave.{weave, dropped, merges}
 use Rattle.weaving.specs.Inner.{SizesPut, Ready, blanks, LaidAll}
-use Rattle.weaving.specs.Calls.{countedReply, wovenReply, unlessRefused, filled, runsReply, RunsDone, weaveReply, WeaveDone}
+use Rattle.weaving.specs.Calls.{unlessRefused, filled, runsReply, RunsDone, weaveReply, WeaveDone}
 
 -- a refused call changes nothing
 same-refused : (a : Reply) (x : Refusal) (new old : List ℕ) → a ≡ refusalReply x → old ≡ unlessRefused a new old

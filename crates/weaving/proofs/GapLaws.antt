@@ -5,7 +5,7 @@ use mathlib.Core.Bool.{Bool, true, false}
 use Prim.Native.Nat.{ℕ, zero, suc, _+_, _-_, _≤_, _<_}
 use native.Mathlib.Omega.{arith}
 use native.Mathlib.Numerals.{add-one}
-use lib.ListN.{length, getD, take, drop, set, length-set, take-append-drop}
+use lib.ListN.{length, getD, take, drop, set, take-append-drop}
 use lib.Seq.{take-nil, slice, length-slice, getD-take, getD-drop, getD-set-other, take-set-lt, drop-set-add, take-suc, take-suc-set, drop-set-lt, drop-drop, take-set-le, take-take}
 use lib.Dec.{ltb}
 use mathlib.Core.Logic.{_≢_}

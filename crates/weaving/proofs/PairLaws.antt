@@ -1,13 +1,12 @@
 -- Laws of the search for the first mergeable pair: one for each way that the loops go.
-use mathlib.Core.Path.{_≡_, refl, sym, ap, ap₂, _∙_, subst}
+use mathlib.Core.Path.{_≡_, sym, subst}
 use mathlib.Core.List.{List}
-use mathlib.Core.Bool.{Bool, true, false}
-use Prim.Native.Nat.{ℕ, zero, suc, _+_, _≤_, _<_}
+use mathlib.Core.Bool.{true, false}
+use Prim.Native.Nat.{ℕ, _+_, _≤_, _<_}
 use native.Mathlib.Omega.{arith}
 use lib.Dec.{ltb}
 use borrow.Author.Tests.{ltb-true, ltb-false}
 use Rattle.rules.specs.declared.Rule.{Rule}
-use Rattle.rules.specs.Slices.{ruleAt}
 use Rattle.rules.proofs.Tests.{split}
 use Rattle.weaving.specs.declared.merging.Found.{Found}
 use Rattle.weaving.specs.Inner.{Apart, NoRows, NoRow, Tried, Untried, PairAt, FoundIn}

@@ -1,10 +1,10 @@
 -- Laws of cutting in place: where a run's size goes, and the places that are cleared after the last.
 use mathlib.Core.Path.{_≡_, refl, sym, ap, ap₂, _∙_, subst}
 use mathlib.Core.List.{List, [], _∷_, _++_, map, append-assoc, append-nil}
-use Prim.Native.Nat.{ℕ, zero, suc, _+_, _-_, _≤_, _<_}
+use Prim.Native.Nat.{ℕ, suc, _+_, _-_, _≤_, _<_}
 use native.Mathlib.Omega.{arith}
 use native.Mathlib.Numerals.{add-one}
-use lib.ListN.{length, take, drop, set, replicate, length-append, length-map, length-replicate, replicate-append-replicate, take-append-drop}
+use lib.ListN.{length, take, drop, set, replicate, length-map, replicate-append-replicate, take-append-drop}
 use lib.Seq.{slice, length-slice, length-take-le, drop-length, drop-drop, take-suc-set, drop-set-lt}
 use Rattle.rules.specs.declared.Rule.{Rule}
 use Rattle.weaving.specs.Runs.{runs, runSizes}

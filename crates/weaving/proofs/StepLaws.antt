@@ -1,7 +1,7 @@
 -- Laws of steps 1 and 2, and that weaving keeps every answer of a run and makes none longer.
-use mathlib.Core.Path.{_≡_, refl, sym, ap, ap₂, _∙_, subst}
+use mathlib.Core.Path.{_≡_, refl, sym, ap, _∙_, subst}
 use mathlib.Core.Logic.{_≢_}
-use mathlib.Core.List.{List, [], _∷_, _++_, map, append-assoc, append-nil}
+use mathlib.Core.List.{List, [], _∷_, _++_, map}
 use mathlib.Core.Bool.{Bool, true, false, not, _&&_, _||_}
 use Prim.Native.Nat.{ℕ, zero, suc, _+_, _-_, _≤_, _<_}
 use native.Mathlib.Omega.{arith}
@@ -15,7 +15,7 @@ use Rattle.rules.proofs.RuleLaws.{covers-matches, fewer-stars, first-hit, first
 use Rattle.rules.proofs.EntryLaws.{all-map, all-zip, pairs-map}
 use Rattle.weaving.specs.Runs.{any, join}
 use Rattle.weaving.specs.Weave.{consIf, uncoveredAfter, uncovered, filter, chunk, chunksFrom, chunks, mergeChunk, mergesOf, sum, weaveRun, mergesIn}
-use Rattle.weaving.proofs.MergeLaws.{hits, hits-hit, hits-miss, first-none, merge-chunk, chunk-shorter, chunk-counts}
+use Rattle.weaving.proofs.MergeLaws.{hits, hits-hit, hits-miss, first-none, merge-chunk, chunk-shorter}
 use Rattle.weaving.proofs.RunLaws.{NoCross}
 
 -- ---- filters

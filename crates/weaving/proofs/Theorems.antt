@@ -1,27 +1,25 @@
 -- What document 01 says of runs and weaving, proved of the definitions for every width, list and header.
 use mathlib.Core.Path.{_≡_, refl, sym, ap, _∙_, subst}
-use mathlib.Core.List.{List, [], _∷_, _++_, map}
-use mathlib.Core.Bool.{Bool, true, false}
-use Prim.Native.Nat.{ℕ, zero, suc, _+_, _-_, _≤_, _<_}
+use mathlib.Core.List.{List, [], _∷_, map}
+use mathlib.Core.Bool.{false}
+use Prim.Native.Nat.{ℕ, zero, suc, _+_, _-_, _≤_}
 use native.Mathlib.Omega.{arith}
-use lib.Dec.{eqb}
-use lib.ListN.{length, length-append}
+use lib.ListN.{length}
 use Rattle.rules.specs.declared.Rule.{Rule}
-use Rattle.rules.specs.Rules.{matches, first, answer, noMatch, Valid, crosses, stars, mergeable}
+use Rattle.rules.specs.Rules.{first, answer, noMatch, Valid, mergeable}
 use Rattle.rules.specs.Slices.{rulesOf, Lent}
 use Rattle.rules.specs.Lists.{All, Pairs}
 use Rattle.rules.specs.Calls.{checkList}
 use Rattle.rules.specs.Replies.{passed}
-use Rattle.rules.proofs.Tests.{split, eqb-yes}
 use Rattle.rules.proofs.RuleLaws.{first-append}
 use Rattle.rules.proofs.EntryLaws.{all-append}
 use Rattle.rules.proofs.SliceLaws.{rules-length}
 use Rattle.rules.proofs.CheckLaws.{Sound, sound-list}
 use Rattle.weaving.specs.Runs.{runs, join}
-use Rattle.weaving.specs.Weave.{uncovered, filter, chunk, chunks, mergeChunk, weaveRun, weave, kept, dropped, merges}
-use Rattle.weaving.proofs.MergeLaws.{hits, merge-chunk, chunk-done, Unshared, Reaches, reached-unshared, chunk-reached}
-use Rattle.weaving.proofs.RunLaws.{NoCross, CrossFree, Run, runs-join as join-runs, runs-run, runs-free, fewest}
-use Rattle.weaving.proofs.StepLaws.{uncovered-all, uncovered-before, chunk-all, chunk-apart, woven, run-woven, weave-run, run-length}
+use Rattle.weaving.specs.Weave.{uncovered, chunk, mergeChunk, weaveRun, weave, kept, dropped, merges}
+use Rattle.weaving.proofs.MergeLaws.{merge-chunk, chunk-done, Unshared, Reaches, reached-unshared, chunk-reached}
+use Rattle.weaving.proofs.RunLaws.{CrossFree, Run, runs-join as join-runs, runs-run, runs-free, fewest}
+use Rattle.weaving.proofs.StepLaws.{uncovered-all, uncovered-before, chunk-all, chunk-apart, woven, run-woven, weave-run}
 use Rattle.weaving.proofs.LaidLaws.{weave-sum}
 
 -- ---- runs

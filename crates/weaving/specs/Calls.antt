@@ -9,7 +9,6 @@ use Rattle.rules.specs.Replies.{Reply, Gives, Refuses, _then_, refusalReply}
 use Rattle.rules.specs.Checks.{lengthsCheck, roomCheck}
 use Rattle.rules.specs.Calls.{checkList}
 use Rattle.weaving.specs.declared.Counted.{Counted}
-use Rattle.weaving.specs.declared.Tally.{Tally}
 use Rattle.weaving.specs.declared.Woven.{Woven}
 use Rattle.weaving.specs.Runs.{runs, runSizes}
 use Rattle.weaving.specs.Weave.{weave, kept, dropped, merges}

@@ -1,7 +1,6 @@
 use Rattle.text.specs.Numbers.{digitOf}
-use borrow.Author.Tests.{eq-eqb, ne-eqb, lt-ltb, le-ltb, le-leb, lt-leb}
+use borrow.Author.Tests.{lt-ltb, le-ltb}
 use native.Mathlib.Omega.{arith}
-use mathlib.Core.Path.{_≡_, refl, sym, ap, _∙_}
 use borrow.Author.Needs.{needs}
 use Rattle.text.proofs.numbers.digit.Statement.{statement}
 use Rattle.text.proofs.numbers.digit.Tie as tie

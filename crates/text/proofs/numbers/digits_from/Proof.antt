@@ -1,10 +1,10 @@
 use Rattle.text.proofs.NumberLaws.{no-digit, past-limit, one-more, no-more, too-large, fits-still}
 use Rattle.text.specs.Numbers.{goesOn}
 use lib.ListN.{length, drop}
-use Prim.Native.Nat.{ℕ, suc, _+_, _-_, _*_, _^_, _≤_, _<_}
+use Prim.Native.Nat.{_+_, _-_, _*_, _^_, _≤_, _<_}
 use borrow.Author.Needs.{needs}
 use native.Mathlib.Omega.{arith}
-use mathlib.Core.Path.{_≡_, refl, sym, ap, _∙_}
+use mathlib.Core.Path.{_≡_, refl, sym, _∙_}
 use Rattle.text.proofs.numbers.digits_from.Statement.{statement}
 use Rattle.text.proofs.numbers.digits_from.Tie as tie
 use Rattle.text.proofs.numbers.digits_from.Reads as reads

@@ -1,7 +1,7 @@
 use Rattle.rules.proofs.Tests.{and-on, and-off}
 use Rattle.text.specs.Numbers.{marked}
-use borrow.Author.Tests.{eq-eqb, ne-eqb, lt-ltb, le-ltb, le-leb, lt-leb}
-use mathlib.Core.Path.{_≡_, refl, sym, ap, _∙_}
+use borrow.Author.Tests.{eq-eqb, ne-eqb, lt-ltb, le-ltb}
+use mathlib.Core.Path.{_∙_}
 use borrow.Author.Needs.{needs}
 use Rattle.text.proofs.numbers.marked.Statement.{statement}
 use Rattle.text.proofs.numbers.marked.Tie as tie

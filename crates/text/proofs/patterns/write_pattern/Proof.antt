@@ -2,10 +2,10 @@ use Rattle.text.proofs.PatternLaws.{text-none, text-more, over-wide, to
 use Rattle.text.specs.Patterns.{placesText}
 use lib.ListN.{length, drop, set, length-set}
 use mathlib.Core.List.{List, _++_}
-use Prim.Native.Nat.{ℕ, suc, _+_, _-_, _*_, _^_, _≤_, _<_}
+use Prim.Native.Nat.{ℕ, _+_, _-_, _≤_}
 use borrow.Author.Needs.{needs}
 use native.Mathlib.Omega.{arith}
-use mathlib.Core.Path.{_≡_, refl, sym, ap, _∙_}
+use mathlib.Core.Path.{_≡_, refl, ap, _∙_}
 use Rattle.text.proofs.patterns.write_pattern.Statement.{statement}
 use Rattle.text.proofs.patterns.write_pattern.Tie as tie
 use Rattle.text.proofs.patterns.write_pattern.Reads as reads

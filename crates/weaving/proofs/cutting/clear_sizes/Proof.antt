@@ -1,9 +1,8 @@
-use mathlib.Core.Path.{_≡_, refl, sym, ap, ap₂, _∙_, subst}
-use mathlib.Core.List.{List, [], _∷_, _++_}
-use Prim.Native.Nat.{ℕ, suc, _+_, _-_, _≤_, _<_}
+use mathlib.Core.Path.{_≡_, refl}
+use Prim.Native.Nat.{_-_, _≤_}
 use native.Mathlib.Omega.{arith}
 use borrow.Author.Needs.{needs}
-use lib.ListN.{length, set}
+use lib.ListN.{length}
 use Rattle.weaving.specs.Inner.{Cleared}
 use Rattle.weaving.proofs.SizeLaws.{cleared-none, cleared-more, cleared-end}
 use Rattle.weaving.proofs.cutting.clear_sizes.Statement.{statement}

@@ -1,4 +1,4 @@
-use mathlib.Core.Path.{_≡_, refl, sym, ap, ap₂, _∙_, subst}
+use mathlib.Core.Path.{refl}
 use borrow.Author.Needs.{needs}
 use Rattle.weaving.proofs.CallLaws.{call-sound, runs-list, runs-seven, runs-given}
 use Rattle.weaving.proofs.cutting.runs.Statement.{statement}

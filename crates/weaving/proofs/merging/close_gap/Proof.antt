@@ -1,11 +1,9 @@
-use mathlib.Core.Path.{_≡_, refl, sym, ap, ap₂, _∙_, subst}
-use mathlib.Core.List.{List, [], _∷_, _++_}
-use Prim.Native.Nat.{ℕ, suc, _+_, _-_, _≤_, _<_}
+use mathlib.Core.Path.{refl}
+use Prim.Native.Nat.{_-_, _≤_, _<_}
 use native.Mathlib.Omega.{arith}
 use borrow.Author.Needs.{needs}
-use lib.ListN.{length, set}
-use Rattle.rules.specs.declared.Rule.{Rule}
-use Rattle.rules.specs.Slices.{rulesOf, ruleAt, Lent, Placed}
+use lib.ListN.{length}
+use Rattle.rules.specs.Slices.{rulesOf, Lent}
 use Rattle.rules.proofs.SliceLaws.{Kept, kept-lent, rules-length, placed-rules, placed-kept}
 use Rattle.weaving.proofs.GapLaws.{Shifted, shifted-none, shifted-put, shifted-closed}
 use Rattle.weaving.proofs.merging.close_gap.Statement.{statement}

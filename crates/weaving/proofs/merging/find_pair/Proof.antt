@@ -1,13 +1,10 @@
-use mathlib.Core.Path.{_≡_, refl, sym, ap, ap₂, _∙_, subst}
-use mathlib.Core.List.{List, [], _∷_, _++_}
-use Prim.Native.Nat.{ℕ, suc, _+_, _-_, _≤_, _<_}
+use mathlib.Core.Path.{_≡_, refl, sym, ap₂, _∙_, subst}
+use mathlib.Core.List.{List}
+use Prim.Native.Nat.{_-_, _≤_, _<_}
 use native.Mathlib.Omega.{arith}
 use borrow.Author.Needs.{needs}
-use lib.ListN.{length, set}
 use Rattle.rules.specs.declared.Rule.{Rule}
-use Rattle.rules.specs.Slices.{rulesOf, ruleAt, Lent, Placed}
-use Rattle.rules.proofs.SliceLaws.{Kept, kept-lent, rules-length, placed-rules, placed-kept}
-use mathlib.Core.Bool.{true, false}
+use Rattle.rules.specs.Slices.{rulesOf, ruleAt}
 use Rattle.rules.specs.Rules.{mergeable}
 use Rattle.weaving.specs.Inner.{NoRow, NoRows}
 use Rattle.weaving.specs.declared.merging.Found.{Found}

@@ -1,12 +1,12 @@
-use mathlib.Core.Path.{_≡_, refl, sym, ap, ap₂, _∙_, subst}
-use mathlib.Core.List.{List, [], _∷_, _++_}
-use Prim.Native.Nat.{ℕ, suc, _+_, _-_, _≤_, _<_}
+use mathlib.Core.Path.{refl}
+use mathlib.Core.List.{List}
+use Prim.Native.Nat.{_-_, _≤_}
 use native.Mathlib.Omega.{arith}
 use borrow.Author.Needs.{needs}
-use lib.ListN.{length, set}
+use lib.ListN.{length}
 use Rattle.rules.specs.declared.Rule.{Rule}
-use Rattle.rules.specs.Slices.{rulesOf, ruleAt, Lent, Placed}
-use Rattle.rules.proofs.SliceLaws.{Kept, kept-lent, rules-length, placed-rules, placed-kept}
+use Rattle.rules.specs.Slices.{rulesOf}
+use Rattle.rules.proofs.SliceLaws.{Kept, kept-lent, rules-length}
 use Rattle.weaving.specs.Inner.{Tried}
 use Rattle.weaving.proofs.PairLaws.{tried-none, pair-of, none-of}
 use Rattle.weaving.proofs.GapLaws.{Merging, merging-none, merging-pair, merging-done, tried-merged}

@@ -1,12 +1,8 @@
-use mathlib.Core.Path.{_≡_, refl, sym, ap, ap₂, _∙_, subst}
-use mathlib.Core.List.{List, [], _∷_, _++_}
-use Prim.Native.Nat.{ℕ, suc, _+_, _-_, _≤_, _<_}
+use Prim.Native.Nat.{_-_}
 use native.Mathlib.Omega.{arith}
 use borrow.Author.Needs.{needs}
-use lib.ListN.{length, set}
-use Rattle.rules.specs.declared.Rule.{Rule}
-use Rattle.rules.specs.Slices.{rulesOf, ruleAt, Lent, Placed}
-use Rattle.rules.proofs.SliceLaws.{Kept, kept-lent, rules-length, placed-rules, placed-kept}
+use lib.ListN.{length}
+use Rattle.rules.proofs.SliceLaws.{kept-lent, placed-rules, placed-kept}
 use Rattle.weaving.proofs.GapLaws.{closed-pair}
 use Rattle.weaving.proofs.merging.merge_pair.Statement.{statement}
 use Rattle.weaving.proofs.merging.merge_pair.Tie as tie

@@ -1,4 +1,4 @@
-use mathlib.Core.Path.{_≡_, refl, sym, ap, ap₂, _∙_, subst}
+use mathlib.Core.Path.{refl}
 use Rattle.rules.specs.Rules.{merged}
 use Rattle.weaving.proofs.merging.merged.Statement.{statement}
 use Rattle.weaving.proofs.merging.merged.Tie as tie
