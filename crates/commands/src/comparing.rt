@@ -13,42 +13,42 @@ use rules::Wire;
 use text::Number;
 
 // compare OLD NEW
-pub fn compare_files() {
-    on_images(false, 0, 0);
+pub fn compare_files(at: usize) {
+    on_images(at, false, 0, 0);
 }
 
 // compare OLD NEW ID
-pub fn compare_id() {
-    let i = numbers::number_at(4);
+pub fn compare_id(at: usize) {
+    let i = numbers::number_at(at, 4);
     if let Number::Value(id) = i {
-        on_images(true, id, 0);
+        on_images(at, true, id, 0);
     }
 }
 
 // compare OLD NEW ID START
-pub fn compare_from() {
-    let i = numbers::number_at(4);
+pub fn compare_from(at: usize) {
+    let i = numbers::number_at(at, 4);
     let Number::Value(id) = i else {
         return;
     };
-    let s = numbers::number_at(5);
+    let s = numbers::number_at(at, 5);
     let Number::Value(start) = s else {
         return;
     };
-    on_images(true, id, start);
+    on_images(at, true, id, start);
 }
 
 // The lists with that id, or the first lists where none is named.
-fn on_images(named: bool, id: u64, start: u64) {
+fn on_images(at: usize, named: bool, id: u64, start: u64) {
     let mut old_space = files::space();
     let mut new_space = files::space();
     let old: &mut [u8] = &mut old_space;
     let new: &mut [u8] = &mut new_space;
-    let o = files::load_word(2, old);
+    let o = files::load_word(at, 2, old);
     let Held::Bytes(m) = o else {
         return;
     };
-    let h = files::load_word(3, new);
+    let h = files::load_word(at, 3, new);
     let Held::Bytes(n) = h else {
         return;
     };

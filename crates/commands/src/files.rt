@@ -3,6 +3,7 @@ ghost use mathlib.Core.Path.{_≡_};
 ghost use lib.ListN.{length};
 use crate::lines;
 use crate::slices;
+use crate::words;
 
 // How many bytes a file had, or that it could not be read and a line has said so.
 pub enum Held {
@@ -40,10 +41,10 @@ fn load(path: &[u8], buffer: &mut [u8]) -> Held {
     Held::Bytes(n)
 }
 
-// Reads the file that word i names into the start of the buffer.
-pub fn load_word(i: usize, buffer: &mut [u8]) -> Held {
+// Reads the file that word i after place `at` names into the start of the buffer.
+pub fn load_word(at: usize, i: usize, buffer: &mut [u8]) -> Held {
     let mut path = io::buffer();
-    let n = os::arg(i, &mut path);
+    let n = os::arg(words::place(at, i), &mut path);
     load(&path[..n], buffer)
 }
 
@@ -93,14 +94,14 @@ fn add_part(name: &mut [u8], n: usize) -> usize {
     n + 5
 }
 
-// Writes the bytes as the file that word i names, whole or not at all; whether that was done. A name that is empty or too
+// Writes the bytes as the file that word i after place `at` names, whole or not at all; whether that was done. A name that is empty or too
 // long to have another beside it is no name to write to.
-pub fn save_word(i: usize, bytes: &[u8]) -> bool {
+pub fn save_word(at: usize, i: usize, bytes: &[u8]) -> bool {
     let mut out = io::buffer();
-    let n = os::arg(i, &mut out);
+    let n = os::arg(words::place(at, i), &mut out);
     let mut part_space = io::buffer();
     let part: &mut [u8] = &mut part_space;
-    os::arg(i, part);
+    os::arg(words::place(at, i), part);
     let m = add_part(part, n);
     if n == 0 || m == 0 {
         lines::trouble(b"cannot write ", &out[..n]);

@@ -26,26 +26,27 @@ pub enum Command {
     Usage,
 }
 
-fn obey(command: Command) {
+fn obey(command: Command, at: usize) {
     match command {
-        Command::Check => lists::check_file(),
-        Command::Show => lists::show_file(),
-        Command::Lookup => questions::lookup_file(),
-        Command::Runs => questions::runs_file(),
-        Command::Weave => squeezing::weave_file(),
-        Command::Compare => comparing::compare_files(),
-        Command::CompareId => comparing::compare_id(),
-        Command::CompareFrom => comparing::compare_from(),
+        Command::Check => lists::check_file(at),
+        Command::Show => lists::show_file(at),
+        Command::Lookup => questions::lookup_file(at),
+        Command::Runs => questions::runs_file(at),
+        Command::Weave => squeezing::weave_file(at),
+        Command::Compare => comparing::compare_files(at),
+        Command::CompareId => comparing::compare_id(at),
+        Command::CompareFrom => comparing::compare_from(at),
         Command::Usage => lines::usage(),
     }
 }
 
-// Does what the words of the program's command line ask for, and answers what that was. It is handed the first word and the
-// number of words, the program's own name among them; the other words it reads itself.
-pub fn run(word: &[u8], words: usize) -> Command
+// Does what a command line asks for, and answers what that was. The command line stands among the program's arguments: its name at
+// place `at`, which is 0 for the program's own, and its words after that. The call is handed the first of these words, and how many
+// there are with the name; the others it reads itself.
+pub fn run(word: &[u8], at: usize, words: usize) -> Command
     ensures { λ r. ⌜ r ≡ commandOf (now (word .entry)) words ⌝ }
 {
     let command = words::asked(word, words);
-    obey(command);
+    obey(command, at);
     command
 }

@@ -43,10 +43,10 @@ pub fn read_list(
 }
 
 // check FILE
-pub fn check_file() {
+pub fn check_file(at: usize) {
     let mut space = files::space();
     let all: &mut [u8] = &mut space;
-    let held = files::load_word(2, all);
+    let held = files::load_word(at, 2, all);
     if let Held::Bytes(n) = held {
         check_image(slices::bytes(all, n));
     }
@@ -80,10 +80,10 @@ fn entry_line(image: &[u8], k: usize) {
 }
 
 // show FILE
-pub fn show_file() {
+pub fn show_file(at: usize) {
     let mut space = files::space();
     let all: &mut [u8] = &mut space;
-    let held = files::load_word(2, all);
+    let held = files::load_word(at, 2, all);
     if let Held::Bytes(n) = held {
         show_image(slices::bytes(all, n));
     }

@@ -15,18 +15,18 @@ use text::Number;
 use weaving::Counted;
 
 // lookup FILE ID HEADER
-pub fn lookup_file() {
-    let i = numbers::number_at(3);
+pub fn lookup_file(at: usize) {
+    let i = numbers::number_at(at, 3);
     let Number::Value(id) = i else {
         return;
     };
-    let h = numbers::number_at(4);
+    let h = numbers::number_at(at, 4);
     let Number::Value(header) = h else {
         return;
     };
     let mut space = files::space();
     let all: &mut [u8] = &mut space;
-    let held = files::load_word(2, all);
+    let held = files::load_word(at, 2, all);
     if let Held::Bytes(n) = held {
         lookup_in(slices::bytes(all, n), id, header);
     }
@@ -61,14 +61,14 @@ fn answer(l: Looked) {
 }
 
 // runs FILE ID
-pub fn runs_file() {
-    let i = numbers::number_at(3);
+pub fn runs_file(at: usize) {
+    let i = numbers::number_at(at, 3);
     let Number::Value(id) = i else {
         return;
     };
     let mut space = files::space();
     let all: &mut [u8] = &mut space;
-    let held = files::load_word(2, all);
+    let held = files::load_word(at, 2, all);
     if let Held::Bytes(n) = held {
         runs_in(slices::bytes(all, n), id);
     }

@@ -11,38 +11,44 @@ use weaving::Tally;
 use weaving::Woven;
 
 // weave FILE OUT
-pub fn weave_file() {
+pub fn weave_file(at: usize) {
     let mut space = files::space();
     let all: &mut [u8] = &mut space;
-    let held = files::load_word(2, all);
+    let held = files::load_word(at, 2, all);
     if let Held::Bytes(n) = held {
-        weave_checked(slices::bytes(all, n));
+        weave_checked(at, slices::bytes(all, n));
     }
 }
 
-fn weave_checked(image: &[u8]) {
+fn weave_checked(at: usize, image: &[u8]) {
     let v = image::check(image);
     match v {
-        Verdict::Fine => weave_image(image),
+        Verdict::Fine => weave_image(at, image),
         Verdict::Refused(x) => lines::refusal(x),
     }
 }
 
 // The lines are written once the file is in its place.
-fn weave_image(image: &[u8]) {
+fn weave_image(at: usize, image: &[u8]) {
     let mut kept_space = [0u16; 16];
     let mut dropped_space = [0u16; 16];
     let mut merged_space = [0u16; 16];
     let kept: &mut [u16] = &mut kept_space;
     let dropped: &mut [u16] = &mut dropped_space;
     let merged: &mut [u16] = &mut merged_space;
-    if woven(image, kept, dropped, merged) {
+    if woven(at, image, kept, dropped, merged) {
         report(image, list_count(image), kept, dropped, merged);
     }
 }
 
 // Weaves and saves; whether the new file is in its place. The rules of all lists of an image are 3,640 at most.
-fn woven(image: &[u8], kept: &mut [u16], dropped: &mut [u16], merged: &mut [u16]) -> bool {
+fn woven(
+    at: usize,
+    image: &[u8],
+    kept: &mut [u16],
+    dropped: &mut [u16],
+    merged: &mut [u16],
+) -> bool {
     let mut care_space = [0u64; 3640];
     let mut value_space = [0u64; 3640];
     let mut decision_space = [0u16; 3640];
@@ -51,6 +57,7 @@ fn woven(image: &[u8], kept: &mut [u16], dropped: &mut [u16], merged: &mut [u16]
     let decision: &mut [u16] = &mut decision_space;
     let n = weave_lists(image, kept, dropped, merged, care, value, decision);
     saved(
+        at,
         image,
         kept,
         slices::words(care, n),
@@ -158,7 +165,14 @@ fn weave_list(
 }
 
 // Makes the image of the woven lists, and the file of the image.
-fn saved(image: &[u8], kept: &[u16], care: &[u64], value: &[u64], decision: &[u16]) -> bool {
+fn saved(
+    at: usize,
+    image: &[u8],
+    kept: &[u16],
+    care: &[u64],
+    value: &[u64],
+    decision: &[u16],
+) -> bool {
     let mut id_space = [0u16; 16];
     let ids: &mut [u16] = &mut id_space;
     put_ids(image, ids);
@@ -175,7 +189,7 @@ fn saved(image: &[u8], kept: &[u16], care: &[u64], value: &[u64], decision: &[u1
         out,
     );
     match o {
-        Outcome::Number(n) => files::save_word(3, slices::bytes(out, n)),
+        Outcome::Number(n) => files::save_word(at, 3, slices::bytes(out, n)),
         Outcome::Refused(x) => {
             lines::refusal(x);
             false

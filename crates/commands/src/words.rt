@@ -1,4 +1,4 @@
-// Which command the words of a command line ask for.
+// The words of a command line: where they stand, and which command they ask for.
 ghost use mathlib.Core.Path.{_≡_};
 ghost use Rattle.commands.specs.Words.{asks, commandOf};
 use crate::Command;
@@ -41,4 +41,14 @@ pub fn asked(word: &[u8], words: usize) -> Command
         return Command::CompareFrom;
     }
     Command::Usage
+}
+
+// The place of word i after place `at` among the program's arguments; no argument has the place that stands for too many.
+pub fn place(at: usize, i: usize) -> usize {
+    if at <= 65535 {
+        if i <= 8 {
+            return at + i;
+        }
+    }
+    18446744073709551615
 }

@@ -2,5 +2,5 @@
 fn main() {
     let mut space = io::buffer();
     let n = os::arg(1, &mut space);
-    commands::run(&space[..n], os::arg_count());
+    commands::run(&space[..n], 0, os::arg_count());
 }
