@@ -9,7 +9,7 @@ use lib.ListN.{length, drop}
 use borrow.Author.Tests.{eq-eqb, ne-eqb, le-leb, lt-leb}
 use Rattle.rules.specs.declared.Refusal.{Refusal}
 use Rattle.rules.specs.declared.Verdict.{Verdict}
-use Rattle.rules.specs.Replies.{Reply, Gives, Refuses, passed, need, _then_, verdictReply, refusalReply}
+use Rattle.rules.specs.Replies.{Reply, Gives, Refuses, passed, need, _then_, verdictReply, refusalReply, unlessRefused}
 use Rattle.rules.specs.Checks.{lengthsCheck, roomCheck}
 use Rattle.rules.proofs.Tests.{true-and, and-on, and-off}
 use Rattle.rules.proofs.ReplyLaws.{then-next, then-refuses, fine-next, refused-stop, need-yes, need-no}
@@ -19,7 +19,7 @@ use Rattle.image.specs.Bytes.{num}
 use Rattle.image.specs.Images.{Entry, entryWith, countIn, rulesIn}
 use Rattle.image.specs.Checks.{imageCheck}
 use Rattle.image.specs.Places.{placeOf, listWith}
-use Rattle.image.specs.Replies.{outcomeReply, afterwards}
+use Rattle.image.specs.Replies.{outcomeReply}
 use Rattle.image.specs.Calls.{entryReply, entryNumber, idCheck, readReply, ReadOut, filled, careOf, valueOf, decisionOf}
 use Rattle.image.specs.Filled.{Filled}
 use Rattle.image.proofs.NumberLaws.{num-in}
@@ -77,9 +77,9 @@ module _ (b : List ℕ) (id : ℕ) (cs vs ds : List ℕ) where
   read-refuses r n l i p q =
       record {
         answer = p ∙ sym q;
-        cares = sym (ap (λ (u : Reply). afterwards u (filled careOf (listWith b id) cs) cs) q);
-        values = sym (ap (λ (u : Reply). afterwards u (filled valueOf (listWith b id) vs) vs) q);
-        decisions = sym (ap (λ (u : Reply). afterwards u (filled decisionOf (listWith b id) ds) ds) q);
+        cares = sym (ap (λ (u : Reply). unlessRefused u (filled careOf (listWith b id) cs) cs) q);
+        values = sym (ap (λ (u : Reply). unlessRefused u (filled valueOf (listWith b id) vs) vs) q);
+        decisions = sym (ap (λ (u : Reply). unlessRefused u (filled decisionOf (listWith b id) ds) ds) q);
       }
 
   pub read-gives : (r : Outcome) (ns cs′ vs′ ds′ : List ℕ) → outcomeReply r ≡ Gives ns → readReply b id cs vs ds ≡ Gives ns → Filled (listWith b id) cs vs ds cs′ vs′ ds′
@@ -87,9 +87,9 @@ module _ (b : List ℕ) (id : ℕ) (cs vs ds : List ℕ) where
   read-gives r ns cs′ vs′ ds′ p q f =
       record {
         answer = p ∙ sym q;
-        cares = f .cares ∙ sym (ap (λ (u : Reply). afterwards u (filled careOf (listWith b id) cs) cs) q);
-        values = f .values ∙ sym (ap (λ (u : Reply). afterwards u (filled valueOf (listWith b id) vs) vs) q);
-        decisions = f .decisions ∙ sym (ap (λ (u : Reply). afterwards u (filled decisionOf (listWith b id) ds) ds) q);
+        cares = f .cares ∙ sym (ap (λ (u : Reply). unlessRefused u (filled careOf (listWith b id) cs) cs) q);
+        values = f .values ∙ sym (ap (λ (u : Reply). unlessRefused u (filled valueOf (listWith b id) vs) vs) q);
+        decisions = f .decisions ∙ sym (ap (λ (u : Reply). unlessRefused u (filled decisionOf (listWith b id) ds) ds) q);
       }
 
   module _ (v : Verdict) (p : verdictReply v ≡ idCheck b id) where

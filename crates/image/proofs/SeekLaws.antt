@@ -12,7 +12,7 @@ use borrow.Author.Tests.{eq-eqb, ne-eqb}
 use Rattle.rules.specs.declared.Rule.{Rule}
 use Rattle.rules.specs.declared.Refusal.{Refusal}
 use Rattle.rules.specs.declared.Verdict.{Verdict}
-use Rattle.rules.specs.Replies.{Reply, Gives, Refuses, passed, verdictReply}
+use Rattle.rules.specs.Replies.{Reply, Gives, Refuses, passed, verdictReply, unlessRefused}
 use Rattle.rules.specs.Slices.{Lent, Placed}
 use Rattle.rules.proofs.ReplyLaws.{fine-next, verdict-stop, need-yes, need-no, then-second}
 use Rattle.rules.proofs.SliceLaws.{Kept, placed-yes, placed-kept}
@@ -21,7 +21,6 @@ use Rattle.image.specs.Bytes.{num, part}
 use Rattle.image.specs.Images.{Entry, entryIn, entriesIn, entriesOf, countIn, total, ruleIn, rulesIn}
 use Rattle.image.specs.Checks.{imageCheck, headCheck, contentsCheck}
 use Rattle.image.specs.Places.{placeIn, placeAt, pickPlace, placeOf}
-use Rattle.image.specs.Replies.{afterwards}
 use Rattle.image.specs.Calls.{idCheck, bodyOf, filled, careOf, valueOf, decisionOf}
 use Rattle.image.specs.Filled.{Filled}
 use Rattle.image.proofs.NumberLaws.{num-in}
@@ -122,13 +121,13 @@ module _ (b : List ℕ) (id : ℕ) where
 
   pub body-none : (v : Verdict) {x : Refusal} → verdictReply v ≡ idCheck b id → v ≡ Verdict.Refused x → [] ≡ bodyOf b id
   unfolding bodyOf
-  body-none v p q = sym (ap (λ (u : Reply). afterwards u (part (18 * placeOf b id .count) (placeOf b id .from) b) []) (sym p ∙ ap verdictReply q))
+  body-none v p q = sym (ap (λ (u : Reply). unlessRefused u (part (18 * placeOf b id .count) (placeOf b id .from) b) []) (sym p ∙ ap verdictReply q))
 
   pub body-found : (v : Verdict) (x : Place) → verdictReply v ≡ idCheck b id → v ≡ Verdict.Fine → x ≡ placeOf b id → part (18 * x .count) (x .from) b ≡ bodyOf b id
   unfolding bodyOf
   body-found v x p q r =
       (λ j. part (18 * r j .count) (r j .from) b)
-      ∙ sym (ap (λ (u : Reply). afterwards u (part (18 * placeOf b id .count) (placeOf b id .from) b) []) (sym p ∙ ap verdictReply q))
+      ∙ sym (ap (λ (u : Reply). unlessRefused u (part (18 * placeOf b id .count) (placeOf b id .from) b) []) (sym p ∙ ap verdictReply q))
 
 -- ---- an entry
 

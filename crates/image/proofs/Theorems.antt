@@ -11,7 +11,7 @@ use lib.Seq.{drop-drop}
 use Rattle.rules.specs.declared.Rule.{Rule}
 use Rattle.rules.specs.Rules.{rule}
 use Rattle.rules.specs.Lists.{All}
-use Rattle.rules.specs.Replies.{Reply, Gives, passed}
+use Rattle.rules.specs.Replies.{Reply, Gives, passed, unlessRefused}
 use Rattle.rules.proofs.ReplyLaws.{then-next, then-second}
 use Rattle.image.specs.declared.Outcome.{Outcome}
 use Rattle.image.specs.declared.places.Place.{Place}
@@ -19,7 +19,6 @@ use Rattle.image.specs.Bytes.{part, le}
 use Rattle.image.specs.Images.{Named, Entry, ruleIn, rulesIn, listsIn, total, countIn, widthIn, entriesOf, listsOf, rulesBytes, bytesOf}
 use Rattle.image.specs.Checks.{entryCheck, entriesCheck, headCheck, contentsCheck, imageCheck}
 use Rattle.image.specs.Places.{placeIn, placeAt, pickPlace, placeOf, listWith}
-use Rattle.image.specs.Replies.{afterwards}
 use Rattle.image.specs.Calls.{idCheck, bodyOf, careOf, valueOf, decisionOf}
 use Rattle.image.specs.Writing.{cut, given, imageLength, writeCheck, writeReply, imaged, Written}
 use Rattle.image.proofs.BareLaws.{bare-first, bare-image, bare-contents, bare-entry}
@@ -116,7 +115,7 @@ rewritten b out h f room =
     let same : given ids ns cs vs ds ≡ ls = ap (cut ids ns) (rules-columns (joined ls)) ∙ cut-joined ls in
     record {
       answer = sym e;
-      bytes = sym (ap (λ (u : Reply). afterwards u (imaged (bytesOf (widthIn b) (given ids ns cs vs ds)) out) out) e
+      bytes = sym (ap (λ (u : Reply). unlessRefused u (imaged (bytesOf (widthIn b) (given ids ns cs vs ds)) out) out) e
           ∙ ap (λ (l : List Named). imaged (bytesOf (widthIn b) l) out) same ∙ ap (λ (x : List ℕ). imaged x out) (read-write b h f));
     }
 
@@ -159,7 +158,7 @@ prefix (suc n) s =
 pub body-rules : (b : List ℕ) (id : ℕ) → idCheck b id ≡ passed → rulesIn (placeOf b id .count) (bodyOf b id) ≡ listWith b id
 unfolding bodyOf listWith
 body-rules b id f =
-    ap (λ (u : Reply). rulesIn (placeOf b id .count) (afterwards u (part (18 * placeOf b id .count) (placeOf b id .from) b) [])) f
+    ap (λ (u : Reply). rulesIn (placeOf b id .count) (unlessRefused u (part (18 * placeOf b id .count) (placeOf b id .from) b) [])) f
     ∙ prefix (placeOf b id .count) (drop (placeOf b id .from) b)
 
 -- The body that is handed back is the bytes of the rules that are read out.
@@ -169,7 +168,7 @@ body-bytes b id h f =
     let facts = image-facts b [] (bare-first (imageCheck b) _ (bare-image b) [] f) in
     let p = placeOf b id in
     let fits = place-fits b id (facts .sums) in
-    ap (λ (u : Reply). afterwards u (part (18 * p .count) (p .from) b) []) f
+    ap (λ (u : Reply). unlessRefused u (part (18 * p .count) (p .from) b) []) f
     ∙ sym (rules-back (p .count) (drop (p .from) b) (bytes-drop (p .from) b h) (within fits))
   where
     within : placeOf b id .from + 18 * placeOf b id .count ≤ length b → 18 * placeOf b id .count ≤ length (drop (placeOf b id .from) b)

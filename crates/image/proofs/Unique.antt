@@ -39,36 +39,36 @@ one-listed (Listed.Refused a) (Listed.Refused b) e = ap Listed.Refused (one-refu
 
 module _ (b : List ℕ) where
   -- check
-  pub one-check : (x y : Verdict) → verdictReply x ≡ imageCheck b → verdictReply y ≡ imageCheck b → x ≡ y
-  one-check x y p q = one-verdict x y (p ∙ sym q)
+  pub check-once : (x y : Verdict) → verdictReply x ≡ imageCheck b → verdictReply y ≡ imageCheck b → x ≡ y
+  check-once x y p q = one-verdict x y (p ∙ sym q)
 
   -- width
-  pub one-width : (x y : Outcome) → outcomeReply x ≡ widthReply b → outcomeReply y ≡ widthReply b → x ≡ y
-  one-width x y p q = one-outcome x y (p ∙ sym q)
+  pub width-once : (x y : Outcome) → outcomeReply x ≡ widthReply b → outcomeReply y ≡ widthReply b → x ≡ y
+  width-once x y p q = one-outcome x y (p ∙ sym q)
 
   -- count
-  pub one-count : (x y : Outcome) → outcomeReply x ≡ countReply b → outcomeReply y ≡ countReply b → x ≡ y
-  one-count x y p q = one-outcome x y (p ∙ sym q)
+  pub count-once : (x y : Outcome) → outcomeReply x ≡ countReply b → outcomeReply y ≡ countReply b → x ≡ y
+  count-once x y p q = one-outcome x y (p ∙ sym q)
 
   -- entry
-  pub one-entry : (k : ℕ) (x y : Listed) → listedReply x ≡ entryReply b k → listedReply y ≡ entryReply b k → x ≡ y
-  one-entry k x y p q = one-listed x y (p ∙ sym q)
+  pub entry-once : (k : ℕ) (x y : Listed) → listedReply x ≡ entryReply b k → listedReply y ≡ entryReply b k → x ≡ y
+  entry-once k x y p q = one-listed x y (p ∙ sym q)
 
   -- body_refusal
-  pub one-body-refusal : (id : ℕ) (x y : Verdict) → verdictReply x ≡ idCheck b id → verdictReply y ≡ idCheck b id → x ≡ y
-  one-body-refusal id x y p q = one-verdict x y (p ∙ sym q)
+  pub body-refusal-once : (id : ℕ) (x y : Verdict) → verdictReply x ≡ idCheck b id → verdictReply y ≡ idCheck b id → x ≡ y
+  body-refusal-once id x y p q = one-verdict x y (p ∙ sym q)
 
   -- body
-  pub one-body : (id : ℕ) (x y : List ℕ) → x ≡ bodyOf b id → y ≡ bodyOf b id → x ≡ y
-  one-body id x y p q = p ∙ sym q
+  pub body-once : (id : ℕ) (x y : List ℕ) → x ≡ bodyOf b id → y ≡ bodyOf b id → x ≡ y
+  body-once id x y p q = p ∙ sym q
 
   -- read
-  pub one-read : (id : ℕ) (cs vs ds : List ℕ) (x y : Outcome) (cs₁ vs₁ ds₁ cs₂ vs₂ ds₂ : List ℕ)
+  pub read-once : (id : ℕ) (cs vs ds : List ℕ) (x y : Outcome) (cs₁ vs₁ ds₁ cs₂ vs₂ ds₂ : List ℕ)
       → ReadOut b id cs vs ds x cs₁ vs₁ ds₁ → ReadOut b id cs vs ds y cs₂ vs₂ ds₂ → (x ≡ y) × (cs₁ ≡ cs₂) × (vs₁ ≡ vs₂) × (ds₁ ≡ ds₂)
-  one-read id cs vs ds x y cs₁ vs₁ ds₁ cs₂ vs₂ ds₂ p q =
+  read-once id cs vs ds x y cs₁ vs₁ ds₁ cs₂ vs₂ ds₂ p q =
       (one-outcome x y (p .answer ∙ sym (q .answer)), p .cares ∙ sym (q .cares), p .values ∙ sym (q .values), p .decisions ∙ sym (q .decisions))
 
 -- write
-pub one-write : (w : ℕ) (ids ns cs vs ds out : List ℕ) (x y : Outcome) (out₁ out₂ : List ℕ)
+pub write-once : (w : ℕ) (ids ns cs vs ds out : List ℕ) (x y : Outcome) (out₁ out₂ : List ℕ)
     → Written w ids ns cs vs ds out x out₁ → Written w ids ns cs vs ds out y out₂ → (x ≡ y) × (out₁ ≡ out₂)
-one-write w ids ns cs vs ds out x y out₁ out₂ p q = (one-outcome x y (p .answer ∙ sym (q .answer)), p .bytes ∙ sym (q .bytes))
+write-once w ids ns cs vs ds out x y out₁ out₂ p q = (one-outcome x y (p .answer ∙ sym (q .answer)), p .bytes ∙ sym (q .bytes))

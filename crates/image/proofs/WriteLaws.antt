@@ -11,7 +11,7 @@ use borrow.Author.Tests.{leb-true}
 use Rattle.rules.specs.declared.Rule.{Rule}
 use Rattle.rules.specs.declared.Refusal.{Refusal}
 use Rattle.rules.specs.declared.Verdict.{Verdict}
-use Rattle.rules.specs.Replies.{Reply, Gives, passed, need, _then_, verdictReply, refusalReply}
+use Rattle.rules.specs.Replies.{Reply, Gives, passed, need, _then_, verdictReply, refusalReply, unlessRefused}
 use Rattle.rules.specs.Checks.{roomCheck}
 use Rattle.rules.specs.Slices.{rulesOf}
 use Rattle.rules.proofs.ReplyLaws.{fine-next, refused-stop, need-then, then-second}
@@ -19,7 +19,6 @@ use Rattle.rules.proofs.SliceLaws.{rules-length}
 use Rattle.image.specs.declared.Outcome.{Outcome}
 use Rattle.image.specs.Images.{Entry, entryWith, entriesFor, ruleBytes, rulesBytes, bodiesBytes, contentsBytes, bytesOf}
 use Rattle.image.specs.Checks.{listsCheck}
-use Rattle.image.specs.Replies.{afterwards}
 use Rattle.image.specs.Writing.{sumOf, cut, given, namesCheck, imageLength, shapeCheck, writeCheck, writeReply, imaged, Written}
 use Rattle.image.specs.Putting.{over, entriesGiven}
 use Rattle.image.proofs.BareLaws.{bare-first, bare-lists}
@@ -135,7 +134,7 @@ module _ (w : ℕ) (ids ns cs vs ds out : List ℕ) (v : Verdict) (p : verdictRe
   unfolding writeReply
   written-refused {x} q =
       let e : writeReply w ids ns cs vs ds out ≡ refusalReply x = refused-stop v _ _ p q in
-      record { answer = sym e; bytes = sym (ap (λ (u : Reply). afterwards u (imaged (bytesOf w (given ids ns cs vs ds)) out) out) e) }
+      record { answer = sym e; bytes = sym (ap (λ (u : Reply). unlessRefused u (imaged (bytesOf w (given ids ns cs vs ds)) out) out) e) }
 
   pub written : v ≡ Verdict.Fine → (s₁ s₂ s₃ : List ℕ)
       → s₁ ≡ over out 0 (1 ∷ w ∷ length ids ∷ 0 ∷ []) → s₂ ≡ over s₁ 4 (contentsBytes (entriesGiven (4 + 8 * length ids) ids ns)) → s₃ ≡ over s₂ (4 + 8 * length ids) (rulesBytes (rulesOf cs vs ds))
@@ -147,5 +146,5 @@ module _ (w : ℕ) (ids ns cs vs ds out : List ℕ) (v : Verdict) (p : verdictRe
       record {
         answer = sym e;
         bytes = parts-given w ids ns cs vs ds (f .shape) out s₁ s₂ s₃ (f .fits) e₁ e₂ e₃
-            ∙ sym (ap (λ (u : Reply). afterwards u (imaged (bytesOf w (given ids ns cs vs ds)) out) out) e);
+            ∙ sym (ap (λ (u : Reply). unlessRefused u (imaged (bytesOf w (given ids ns cs vs ds)) out) out) e);
       }

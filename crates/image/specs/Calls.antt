@@ -5,14 +5,14 @@ use mathlib.Core.List.{List, [], _∷_, _++_, map}
 use lib.ListN.{length, getD, drop}
 use lib.Dec.{leb}
 use Rattle.rules.specs.declared.Rule.{Rule}
-use Rattle.rules.specs.Replies.{Reply, Gives, need, _then_}
+use Rattle.rules.specs.Replies.{Reply, Gives, need, _then_, unlessRefused}
 use Rattle.rules.specs.Checks.{lengthsCheck, roomCheck}
 use Rattle.image.specs.declared.Outcome.{Outcome}
 use Rattle.image.specs.Bytes.{part}
 use Rattle.image.specs.Images.{Entry, entryWith, widthIn, countIn, entriesOf}
 use Rattle.image.specs.Checks.{imageCheck}
 use Rattle.image.specs.Places.{placeOf, listWith}
-use Rattle.image.specs.Replies.{outcomeReply, afterwards}
+use Rattle.image.specs.Replies.{outcomeReply}
 
 -- The width, and the number of lists.
 unfoldable pub widthReply : List ℕ → Reply
@@ -39,7 +39,7 @@ idCheck bs id = imageCheck bs then need (placeOf bs id .found) 15 0 0
 
 -- The part of the image that is the body of the list with that id; an empty part on any refusal.
 unfoldable pub bodyOf : List ℕ → (id : ℕ) → List ℕ
-bodyOf bs id = afterwards (idCheck bs id) (part (18 * placeOf bs id .count) (placeOf bs id .from) bs) []
+bodyOf bs id = unlessRefused (idCheck bs id) (part (18 * placeOf bs id .count) (placeOf bs id .from) bs) []
 
 -- ---- a list read out
 
@@ -68,6 +68,6 @@ readReply bs id cs vs ds =
 -- Reading out: the answer, and the three slices afterwards.
 pub record ReadOut (bs : List ℕ) (id : ℕ) (cs vs ds : List ℕ) (r : Outcome) (cs′ vs′ ds′ : List ℕ) : Type 0 where
   pub answer : outcomeReply r ≡ readReply bs id cs vs ds
-  pub cares : cs′ ≡ afterwards (readReply bs id cs vs ds) (filled careOf (listWith bs id) cs) cs
-  pub values : vs′ ≡ afterwards (readReply bs id cs vs ds) (filled valueOf (listWith bs id) vs) vs
-  pub decisions : ds′ ≡ afterwards (readReply bs id cs vs ds) (filled decisionOf (listWith bs id) ds) ds
+  pub cares : cs′ ≡ unlessRefused (readReply bs id cs vs ds) (filled careOf (listWith bs id) cs) cs
+  pub values : vs′ ≡ unlessRefused (readReply bs id cs vs ds) (filled valueOf (listWith bs id) vs) vs
+  pub decisions : ds′ ≡ unlessRefused (readReply bs id cs vs ds) (filled decisionOf (listWith bs id) ds) ds

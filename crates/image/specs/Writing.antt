@@ -1,4 +1,4 @@
--- What the writer replies, and what the lent bytes hold afterwards (01, Refusal numbers: the writer's order).
+-- What the writer replies, and what the lent bytes hold unlessRefused (01, Refusal numbers: the writer's order).
 use mathlib.Core.Path.{_≡_}
 use Prim.Native.Nat.{ℕ, _+_, _*_}
 use mathlib.Core.List.{List, [], _∷_, _++_}
@@ -6,12 +6,12 @@ use lib.ListN.{length, take, drop}
 use lib.Dec.{leb, eqb}
 use Rattle.rules.specs.declared.Rule.{Rule}
 use Rattle.rules.specs.Slices.{rulesOf}
-use Rattle.rules.specs.Replies.{Reply, Gives, passed, need, _then_}
+use Rattle.rules.specs.Replies.{Reply, Gives, passed, need, _then_, unlessRefused}
 use Rattle.rules.specs.Checks.{widthCheck, lengthsCheck, sizeCheck, roomCheck}
 use Rattle.image.specs.declared.Outcome.{Outcome}
 use Rattle.image.specs.Images.{Named, named, bytesOf}
 use Rattle.image.specs.Checks.{listsCheck}
-use Rattle.image.specs.Replies.{outcomeReply, afterwards}
+use Rattle.image.specs.Replies.{outcomeReply}
 
 unfoldable pub sumOf : List ℕ → ℕ
 sumOf [] = 0
@@ -76,4 +76,4 @@ imaged bs out = bs ++ drop (length bs) out
 -- Writing: the answer, and the lent bytes afterwards.
 pub record Written (w : ℕ) (ids ns cs vs ds out : List ℕ) (r : Outcome) (out′ : List ℕ) : Type 0 where
   pub answer : outcomeReply r ≡ writeReply w ids ns cs vs ds out
-  pub bytes : out′ ≡ afterwards (writeReply w ids ns cs vs ds out) (imaged (bytesOf w (given ids ns cs vs ds)) out) out
+  pub bytes : out′ ≡ unlessRefused (writeReply w ids ns cs vs ds out) (imaged (bytesOf w (given ids ns cs vs ds)) out) out

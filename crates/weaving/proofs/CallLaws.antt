@@ -11,7 +11,7 @@ use Rattle.rules.specs.declared.Rule.{Rule}
 use Rattle.rules.specs.declared.Refusal.{Refusal}
 use Rattle.rules.specs.declared.Verdict.{Verdict}
 use Rattle.rules.specs.Slices.{rulesOf, blank, Lent}
-use Rattle.rules.specs.Replies.{Reply, Gives, Refuses, passed, need, _then_, refusalReply, verdictReply}
+use Rattle.rules.specs.Replies.{Reply, Gives, Refuses, passed, need, _then_, refusalReply, verdictReply, unlessRefused}
 use Rattle.rules.specs.Checks.{lengthsCheck, roomCheck}
 use Rattle.rules.specs.Calls.{checkList}
 use Rattle.rules.proofs.Tests.{and-true, and-on, and-off, true-and, eqb-yes}
@@ -24,7 +24,7 @@ use Rattle.weaving.specs.declared.Woven.{Woven}
 use Rattle.weaving.specs.Runs.{runs, runSizes}
 use Rattle.weaving.specs.Weave.{weave, dropped, merges}
 use Rattle.weaving.specs.Inner.{SizesPut, Ready, blanks, LaidAll}
-use Rattle.weaving.specs.Calls.{unlessRefused, filled, runsReply, RunsDone, weaveReply, WeaveDone}
+use Rattle.weaving.specs.Calls.{filled, runsReply, RunsDone, weaveReply, WeaveDone}
 
 -- a refused call changes nothing
 same-refused : (a : Reply) (x : Refusal) (new old : List ℕ) → a ≡ refusalReply x → old ≡ unlessRefused a new old

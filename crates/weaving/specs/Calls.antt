@@ -5,7 +5,7 @@ use mathlib.Core.List.{List, [], _∷_, _++_, map}
 use lib.ListN.{length, drop, replicate}
 use Rattle.rules.specs.declared.Rule.{Rule}
 use Rattle.rules.specs.Slices.{rulesOf}
-use Rattle.rules.specs.Replies.{Reply, Gives, Refuses, _then_, refusalReply}
+use Rattle.rules.specs.Replies.{Reply, Gives, _then_, refusalReply, unlessRefused}
 use Rattle.rules.specs.Checks.{lengthsCheck, roomCheck}
 use Rattle.rules.specs.Calls.{checkList}
 use Rattle.weaving.specs.declared.Counted.{Counted}
@@ -26,12 +26,6 @@ wovenReply (Woven.Done t) = Gives (t .kept ∷ t .dropped ∷ t .merged ∷ [])
 wovenReply (Woven.Refused x) = refusalReply x
 
 -- ---- result slices
-
--- What a result slice holds after a call: `new` where the call gives something, `old` where it is refused (01: a refusal
--- changes no number lent).
-abbrev pub unlessRefused : Reply → (new old : List ℕ) → List ℕ
-unlessRefused (Gives ns) new old = new
-unlessRefused (Refuses n l r) new old = old
 
 -- The numbers xs, zeros from there up to place n, then what stood there (01: after weaving or cutting into runs, result
 -- places from the count up to the number of input rules are 0; later ones are untouched).
