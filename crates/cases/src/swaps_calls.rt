@@ -6,12 +6,12 @@ use crate::numbers::single;
 use crate::numbers::skip;
 use crate::numbers::word;
 use crate::show;
-use rules::MovedRule;
-use rules::Swap;
-use rules::SwapAnswer;
-use rules::ToSwapped;
-use rules::ToWire;
 use rules::Wire;
+use swaps::MovedRule;
+use swaps::Swap;
+use swaps::SwapAnswer;
+use swaps::ToSwapped;
+use swaps::ToWire;
 
 // The swap that stands at a position of the case: its width, then its 64 places.
 fn swap_at(s: &[u8], at: usize) -> Swap {
@@ -78,7 +78,7 @@ pub fn on_list(
     decision: &[u16],
 ) {
     if kind == 16 {
-        show_swap(rules::prefix_swap(width, care, value, decision));
+        show_swap(swaps::prefix_swap(width, care, value, decision));
     } else if kind == 17 {
         let moved = swap_at(s, at).apply(Wire(word(s, skip(at, 68))));
         look_up(moved, width, care, value, decision);
@@ -87,7 +87,7 @@ pub fn on_list(
 
 fn look_up(moved: ToSwapped, width: u32, care: &[u64], value: &[u64], decision: &[u16]) {
     match moved {
-        ToSwapped::Header(x) => show::looked(rules::lookup_swapped(
+        ToSwapped::Header(x) => show::looked(swaps::lookup_swapped(
             width,
             care,
             value,

@@ -8,9 +8,9 @@ use crate::slices;
 use image::Outcome;
 use rules::Looked;
 use rules::Refusal;
-use rules::Swap;
 use rules::Verdict;
 use rules::Wire;
+use swaps::Swap;
 use text::Number;
 use weaving::Counted;
 
@@ -117,7 +117,7 @@ fn show_sizes(sizes: &[u16], count: usize) {
 
 // The prefix bit-swap, or the first two rules that cross.
 fn show_order(width: u32, care: &[u64], value: &[u64], decision: &[u16]) {
-    let a = rules::prefix_swap(width, care, value, decision);
+    let a = swaps::prefix_swap(width, care, value, decision);
     let v = a.verdict;
     let swap = a.swap;
     match v {

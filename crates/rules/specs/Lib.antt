@@ -6,7 +6,3 @@ pub mod Checks
 pub mod Calls
 pub mod Found
 pub mod Lists
-pub mod Swaps
-pub mod SwapCalls
-pub mod Prefix
-pub mod Sorting

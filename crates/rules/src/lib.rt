@@ -60,17 +60,3 @@ pub enum Measured {
     Places(u32),
     Refused(Refusal),
 }
-
-mod swaps;
-
-pub use swaps::MovedRule;
-pub use swaps::Swap;
-pub use swaps::SwapAnswer;
-pub use swaps::Swapped;
-pub use swaps::ToSwapped;
-pub use swaps::ToWire;
-pub use swaps::lookup_swapped;
-
-mod prefixes;
-
-pub use prefixes::prefix_swap;

@@ -35,23 +35,17 @@ pub(crate) fn first_match(care: &[u64], value: &[u64], decision: &[u16], header:
     Found::Nothing
 }
 
-// Looks a header up, whichever its kind.
-pub(crate) fn lookup_number(
-    width: u32,
-    care: &[u64],
-    value: &[u64],
-    decision: &[u16],
-    header: u64,
-) -> Looked
+// Looks a header in wire order up: the checks of the list, then 6; else the decision of the first matching rule.
+pub fn lookup(width: u32, care: &[u64], value: &[u64], decision: &[u16], header: Wire) -> Looked
     ensures { λ r. ⌜ lookedReply r
-        ≡ lookedUp width (now (care .entry)) (now (value .entry)) (now (decision .entry)) header ⌝ }
+        ≡ lookedUp width (now (care .entry)) (now (value .entry)) (now (decision .entry)) (header .0) ⌝ }
 {
     let v = check_list(width, care, value, decision);
     if let Verdict::Refused(x) = v {
         return Looked::Refused(x);
     }
-    if below(header, width) {
-        let Found::At(i) = first_match(care, value, decision, header) else {
+    if below(header.0, width) {
+        let Found::At(i) = first_match(care, value, decision, header.0) else {
             return Looked::Miss;
         };
         let rule = rule_at(care, value, decision, i);
@@ -62,12 +56,4 @@ pub(crate) fn lookup_number(
         list: 0,
         rule: 0,
     })
-}
-
-// Looks a header in wire order up: the checks of the list, then 6; else the decision of the first matching rule.
-pub fn lookup(width: u32, care: &[u64], value: &[u64], decision: &[u16], header: Wire) -> Looked
-    ensures { λ r. ⌜ lookedReply r
-        ≡ lookedUp width (now (care .entry)) (now (value .entry)) (now (decision .entry)) (header .0) ⌝ }
-{
-    lookup_number(width, care, value, decision, header.0)
 }

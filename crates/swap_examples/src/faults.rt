@@ -2,9 +2,9 @@
 use crate::orders;
 use crate::show;
 use rules::Rule;
-use rules::Swap;
-use rules::ToSwapped;
 use rules::Wire;
+use swaps::Swap;
+use swaps::ToSwapped;
 
 // The five calls on one swap, with a rule and a header of width 1.
 fn all(label: &[u8], s: Swap) {

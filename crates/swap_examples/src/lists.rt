@@ -1,11 +1,11 @@
 // Lists in swapped order: a moved header in the moved list gets what the header gets in the list.
 use crate::orders;
 use crate::show;
-use rules::MovedRule;
 use rules::Rule;
-use rules::Swap;
-use rules::ToSwapped;
 use rules::Wire;
+use swaps::MovedRule;
+use swaps::Swap;
+use swaps::ToSwapped;
 
 // A rule, moved; as it was where it is refused.
 fn moved(s: Swap, r: Rule) -> Rule {
@@ -30,7 +30,7 @@ fn both(label: &[u8], s: Swap, h: u64) {
     show::looked(rules::lookup(3, &c, &v, &d, Wire(h)));
     show::text(b", moved: ");
     match s.apply(Wire(h)) {
-        ToSwapped::Header(k) => show::looked(rules::lookup_swapped(3, &mc, &mv, &md, k)),
+        ToSwapped::Header(k) => show::looked(swaps::lookup_swapped(3, &mc, &mv, &md, k)),
         ToSwapped::Refused(f) => show::refusal(f),
     }
     show::text(b"\n");
@@ -57,7 +57,7 @@ pub fn prefixed() {
     let c = [3u64, 1];
     let v = [1u64, 1];
     let d = [1u16, 2];
-    let s = rules::prefix_swap(3, &c, &v, &d).swap;
+    let s = swaps::prefix_swap(3, &c, &v, &d).swap;
     show::moved(
         b"*01 by its prefix swap: ",
         s.apply_rule(rules::rule_at(&c, &v, &d, 0)),
@@ -72,7 +72,7 @@ pub fn prefixed() {
 fn high(label: &[u8], width: u32, care: &[u64], value: &[u64], decision: &[u16]) {
     show::text(label);
     match orders::turned().apply(Wire(1)) {
-        ToSwapped::Header(x) => show::looked(rules::lookup_swapped(
+        ToSwapped::Header(x) => show::looked(swaps::lookup_swapped(
             width,
             care,
             value,

@@ -1,11 +1,11 @@
 // Moving rules and headers.
 use crate::orders;
 use crate::show;
-use rules::MovedRule;
 use rules::Rule;
-use rules::Swap;
-use rules::ToSwapped;
 use rules::Wire;
+use swaps::MovedRule;
+use swaps::Swap;
+use swaps::ToSwapped;
 
 pub fn rules_of_the_paper() {
     let s = orders::three(3, 1, 2, 3);
@@ -49,7 +49,7 @@ fn told(label: &[u8], s: Swap, h: u64) {
     let d = [0u16, 1, 2, 3, 4, 5, 6, 7];
     show::text(label);
     match s.apply(Wire(h)) {
-        ToSwapped::Header(x) => show::looked(rules::lookup_swapped(3, &c, &v, &d, x)),
+        ToSwapped::Header(x) => show::looked(swaps::lookup_swapped(3, &c, &v, &d, x)),
         ToSwapped::Refused(x) => show::refusal(x),
     }
     show::text(b"\n");

@@ -1,5 +1,5 @@
 // Swaps to try, good and bad.
-use rules::Swap;
+use swaps::Swap;
 
 // A swap of one place.
 pub fn one(a: u8, width: u32) -> Swap {

@@ -1,15 +1,15 @@
 // Printing of answers.
 ghost use Prim.Native.Nat.{_≤_};
 use rules::Looked;
-use rules::MovedRule;
 use rules::Refusal;
 use rules::Rule;
-use rules::Swap;
-use rules::SwapAnswer;
-use rules::ToSwapped;
-use rules::ToWire;
 use rules::Verdict;
 use rules::Wire;
+use swaps::MovedRule;
+use swaps::Swap;
+use swaps::SwapAnswer;
+use swaps::ToSwapped;
+use swaps::ToWire;
 
 pub fn text(s: &[u8]) {
     io::write_all(1, s);

@@ -1,0 +1,24 @@
+use native.Mathlib.Omega.{arith}
+use mathlib.Core.Path.{_≡_, refl, sym, ap, _∙_}
+use borrow.Author.Tests.{eq-eqb, ne-eqb, lt-ltb, le-ltb, le-leb, lt-leb}
+use Rattle.rules.proofs.BitLaws.{below-shift, below-full}
+use borrow.Author.Needs.{needs}
+use Rattle.swaps.proofs.checks.below.Statement.{statement}
+use Rattle.swaps.proofs.checks.below.Tie as tie
+use Rattle.swaps.proofs.checks.below.Reads as reads
+use Rattle.swaps.proofs.checks.below.Lts as lts
+
+-- src/checks.rt:30:16
+shr-result : tie.Need-shr-result
+shr-result c = search needs
+
+-- src/checks.rt:30:9
+returns : tie.Need-returns
+returns c = below-shift (c .before .args .header) (c .before .args .width)
+
+-- src/checks.rt:25:1
+returns-2 : tie.Need-returns-2
+returns-2 c = sym (lt-ltb _ _ (below-full (c .before .args .header) (c .before .args .width) (omega arith) (omega arith)))
+
+pub below-spec : {M : Type 1} → statement M
+below-spec = tie.close (tie.spec shr-result returns returns-2)
