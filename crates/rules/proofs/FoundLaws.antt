@@ -56,10 +56,14 @@ decision-at [] i h = absurd (omega arith)
 decision-at (r ∷ rs) zero h = refl
 decision-at (r ∷ rs) (suc i) h = decision-at rs i (omega arith)
 
+-- what holds of each rule holds of the rule at a position
+pub holds-at : (P : Rule → Type 0) (rs : List Rule) (i : ℕ) → All P rs → i < length rs → P (ruleAt rs i)
+holds-at P [] i a h = absurd (omega arith)
+holds-at P (r ∷ rs) zero a h = a .0
+holds-at P (r ∷ rs) (suc i) a h = holds-at P rs i (a .1) (omega arith)
+
 pub valid-at : (w : ℕ) (rs : List Rule) (i : ℕ) → All (Valid w) rs → i < length rs → Valid w (ruleAt rs i)
-valid-at w [] i a h = absurd (omega arith)
-valid-at w (r ∷ rs) zero a h = a .0
-valid-at w (r ∷ rs) (suc i) a h = valid-at w rs i (a .1) (omega arith)
+valid-at w rs i a h = holds-at (Valid w) rs i a h
 
 pub answered-hit : (w : ℕ) (rs : List Rule) (h i : ℕ) (r : Rule) → All (Valid w) rs → FirstAt rs h (Found.At i) → r ≡ ruleAt rs i
     → answered (answer rs h) ≡ Gives (r .decision ∷ [])

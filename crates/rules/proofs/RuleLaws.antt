@@ -43,6 +43,19 @@ sub-covers a b h s m n =
     true-and (yes-eqb _ _ s)
     (yes-eqb _ _ (ap (λ (x : ℕ). bitAnd x (a .care)) (sym (matches-yes b h n)) ∙ and-sub (a .care) (b .care) h s ∙ matches-yes a h m))
 
+-- crossing goes both ways, so that it does not matter which of two rules comes first
+pub crosses-either-way : (a b : Rule) → crosses a b ≡ crosses b a
+unfolding crosses
+crosses-either-way a b =
+    swap (eqb (bitAnd (a .care) (b .care)) (a .care)) (eqb (bitAnd (a .care) (b .care)) (b .care))
+    ∙ ap (λ (n : ℕ). not (eqb n (b .care)) && not (eqb n (a .care))) (and-comm (a .care) (b .care))
+  where
+    swap : (x y : Bool) → (not x && not y) ≡ (not y && not x)
+    swap true true = refl
+    swap true false = refl
+    swap false true = refl
+    swap false false = refl
+
 -- two rules that do not cross: one's care places are among the other's
 pub nested : (a b : Rule) → crosses b a ≡ false → (bitAnd (a .care) (b .care) ≡ a .care) ⊎ (bitAnd (b .care) (a .care) ≡ b .care)
 unfolding crosses

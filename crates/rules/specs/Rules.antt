@@ -7,6 +7,7 @@ use lib.Dec.{eqb}
 use lib.Bits.{bitAnd, bitXor}
 use Rattle.rules.specs.declared.Rule.{Rule}
 use Rattle.rules.specs.Words.{setBits}
+use Rattle.rules.specs.Lists.{Pairs}
 
 -- A rule from its care word, value word and decision.
 abbrev pub rule : (care value decision : ℕ) → Rule
@@ -55,6 +56,14 @@ covers a b = eqb (bitAnd (a .care) (b .care)) (a .care) && eqb (bitAnd (b .value
 unfoldable pub crosses : Rule → Rule → Bool
 crosses a b =
     not (eqb (bitAnd (a .care) (b .care)) (a .care)) && not (eqb (bitAnd (a .care) (b .care)) (b .care))
+
+-- A later rule does not cross an earlier one. (That crossing goes both ways is the law `crosses-either-way`.)
+abbrev pub NoCross : Rule → Rule → Type 0
+NoCross a b = crosses b a ≡ false
+
+-- No two rules of a list cross.
+abbrev pub CrossFree : List Rule → Type 0
+CrossFree rs = Pairs NoCross rs
 
 -- The number of places where both care and the values differ (01, Patterns and lists, distance).
 unfoldable pub distance : Rule → Rule → ℕ

@@ -1,39 +1,16 @@
 -- Laws of runs: joined they are the list, each is cross-free, and no cutting into cross-free runs has fewer.
 use mathlib.Core.Path.{_≡_, refl, sym, ap, _∙_, subst}
 use mathlib.Core.List.{List, [], _∷_, _++_, append-assoc, append-nil}
-use mathlib.Core.Bool.{Bool, true, false, not, _&&_, _||_}
+use mathlib.Core.Bool.{Bool, true, false, _||_}
 use Prim.Native.Nat.{ℕ, suc, _+_, _≤_}
 use native.Mathlib.Omega.{arith}
-use lib.Dec.{eqb}
-use lib.Bits.{bitAnd, and-comm}
 use lib.ListN.{length}
 use Rattle.rules.specs.declared.Rule.{Rule}
-use Rattle.rules.specs.Rules.{Valid, crosses}
+use Rattle.rules.specs.Rules.{Valid, crosses, NoCross, CrossFree}
 use Rattle.rules.specs.Lists.{All, Pairs}
 use Rattle.rules.proofs.Tests.{split, true-false}
 use Rattle.rules.proofs.EntryLaws.{all-snoc, pairs-snoc}
 use Rattle.weaving.specs.Runs.{any, cutAt, cut, runs, join}
-
--- A later rule does not cross an earlier one.
-abbrev pub NoCross : Rule → Rule → Type 0
-NoCross a b = crosses b a ≡ false
-
--- No two rules cross.
-abbrev pub CrossFree : List Rule → Type 0
-CrossFree rs = Pairs NoCross rs
-
--- crossing goes both ways, so that it does not matter which of two rules comes first
-pub crosses-either-way : (a b : Rule) → crosses a b ≡ crosses b a
-unfolding crosses
-crosses-either-way a b =
-    swap (eqb (bitAnd (a .care) (b .care)) (a .care)) (eqb (bitAnd (a .care) (b .care)) (b .care))
-    ∙ ap (λ (n : ℕ). not (eqb n (b .care)) && not (eqb n (a .care))) (and-comm (a .care) (b .care))
-  where
-    swap : (x y : Bool) → (not x && not y) ≡ (not y && not x)
-    swap true true = refl
-    swap true false = refl
-    swap false true = refl
-    swap false false = refl
 
 -- ---- the runs are the list
 

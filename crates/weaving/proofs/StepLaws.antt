@@ -8,7 +8,7 @@ use native.Mathlib.Omega.{arith}
 use lib.Dec.{eqb}
 use lib.ListN.{length, length-append}
 use Rattle.rules.specs.declared.Rule.{Rule}
-use Rattle.rules.specs.Rules.{matches, first, Valid, covers, stars}
+use Rattle.rules.specs.Rules.{matches, first, Valid, covers, NoCross, stars}
 use Rattle.rules.specs.Lists.{All, Pairs}
 use Rattle.rules.proofs.Tests.{split, true-false, never-true, eqb-yes, no-eqb}
 use Rattle.rules.proofs.RuleLaws.{covers-matches, fewer-stars, first-hit, first-miss, first-cons, first-append}
@@ -16,7 +16,6 @@ use Rattle.rules.proofs.EntryLaws.{all-map, all-zip, pairs-map}
 use Rattle.weaving.specs.Runs.{any, join}
 use Rattle.weaving.specs.Weave.{consIf, uncoveredAfter, uncovered, filter, chunk, chunksFrom, chunks, mergeChunk, mergesOf, sum, weaveRun, mergesIn}
 use Rattle.weaving.proofs.MergeLaws.{hits, hits-hit, hits-miss, first-none, merge-chunk, chunk-shorter}
-use Rattle.weaving.proofs.RunLaws.{NoCross}
 
 -- ---- filters
 

@@ -6,7 +6,7 @@ use Prim.Native.Nat.{ℕ, zero, suc, _+_, _-_, _≤_}
 use native.Mathlib.Omega.{arith}
 use lib.ListN.{length}
 use Rattle.rules.specs.declared.Rule.{Rule}
-use Rattle.rules.specs.Rules.{first, answer, noMatch, Valid, mergeable}
+use Rattle.rules.specs.Rules.{first, answer, noMatch, Valid, CrossFree, mergeable}
 use Rattle.rules.specs.Slices.{rulesOf, Lent}
 use Rattle.rules.specs.Lists.{All, Pairs}
 use Rattle.rules.specs.Calls.{checkList}
@@ -18,7 +18,7 @@ use Rattle.rules.proofs.CheckLaws.{Sound, sound-list}
 use Rattle.weaving.specs.Runs.{runs, join}
 use Rattle.weaving.specs.Weave.{uncovered, chunk, mergeChunk, weaveRun, weave, kept, dropped, merges}
 use Rattle.weaving.proofs.MergeLaws.{merge-chunk, chunk-done, Unshared, Reaches, reached-unshared, chunk-reached}
-use Rattle.weaving.proofs.RunLaws.{CrossFree, Run, runs-join as join-runs, runs-run, runs-free, fewest}
+use Rattle.weaving.proofs.RunLaws.{Run, runs-join as join-runs, runs-run, runs-free, fewest}
 use Rattle.weaving.proofs.StepLaws.{uncovered-all, uncovered-before, chunk-all, chunk-apart, woven, run-woven, weave-run}
 use Rattle.weaving.proofs.LaidLaws.{weave-sum}
 
