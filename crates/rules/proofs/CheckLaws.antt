@@ -2,12 +2,12 @@
 use mathlib.Core.Path.{_≡_, refl, sym, ap, _∙_}
 use mathlib.Core.List.{List, [], _∷_}
 use mathlib.Core.Bool.{Bool, true, false, _&&_}
-use Prim.Native.Nat.{ℕ, zero, suc, _+_, _^_, _≤_, _<_}
+use Prim.Native.Nat.{ℕ, _+_, _^_, _≤_, _<_}
 use native.Mathlib.Omega.{arith}
 use native.Mathlib.Numerals.{add-one}
 use lib.Dec.{leb, ltb, eqb}
-use lib.Bits.{bitAnd, and-le-r}
-use lib.ListN.{length, getD, drop, drop-of-length-le}
+use lib.Bits.{and-le-r}
+use lib.ListN.{length, drop, drop-of-length-le}
 use lib.Seq.{drop-cons}
 use borrow.Author.Tests.{leb-true, ltb-true, lt-ltb, eq-eqb, ne-eqb, le-leb, lt-leb}
 use Rattle.rules.specs.declared.Rule.{Rule}
@@ -15,12 +15,12 @@ use Rattle.rules.specs.declared.Refusal.{Refusal}
 use Rattle.rules.specs.declared.Verdict.{Verdict}
 use Rattle.rules.specs.Rules.{noMatch, Valid}
 use Rattle.rules.specs.Slices.{rulesOf, ruleAt, blank, Lent}
-use Rattle.rules.specs.Replies.{Reply, Gives, Refuses, passed, need, _then_, refusalReply, verdictReply}
+use Rattle.rules.specs.Replies.{Reply, Gives, Refuses, passed, need, _then_, verdictReply}
 use Rattle.rules.specs.Checks.{widthCheck, lengthsCheck, sizeCheck, patternFits, ruleCheck, rulesCheck, listCheck, headerCheck}
-use Rattle.rules.specs.Calls.{checkRule, checkList}
+use Rattle.rules.specs.Calls.{checkList}
 use Rattle.rules.specs.Lists.{All}
 use Rattle.rules.proofs.Tests.{and-true, true-and, and-on, and-off, eqb-yes, yes-eqb}
-use Rattle.rules.proofs.ReplyLaws.{then-next, then-stop, fine-next, verdict-stop, need-yes, need-no, need-passed, need-then, then-assoc, then-second, gives-refuses}
+use Rattle.rules.proofs.ReplyLaws.{then-next, fine-next, verdict-stop, need-yes, need-no, need-passed, need-then, then-second, gives-refuses}
 
 -- ---- the width
 

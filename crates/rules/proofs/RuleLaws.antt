@@ -1,9 +1,9 @@
 -- Laws of single rules and of lists of rules: matching, covering, crossing, merging, and the first answer.
-use mathlib.Core.Path.{_≡_, refl, sym, ap, ap₂, _∙_, subst}
+use mathlib.Core.Path.{_≡_, refl, sym, ap, _∙_}
 use mathlib.Core.Logic.{_⊎_, inl, inr, ⊎-map, _≢_}
 use mathlib.Core.List.{List, [], _∷_, _++_, map}
 use mathlib.Core.Bool.{Bool, true, false, not, _&&_, _||_}
-use Prim.Native.Nat.{ℕ, zero, suc, _+_, _-_, _*_, _/_, _%_, _^_, _≤_, _<_}
+use Prim.Native.Nat.{ℕ, suc, _+_, _-_, _^_, _≤_, _<_}
 use native.Mathlib.Omega.{arith}
 use lib.Dec.{eqb}
 use lib.ListN.{length, getD, drop, drop-of-length-le}
@@ -13,9 +13,9 @@ use lib.Bits.{bitAnd, bitXor, and-comm, and-self}
 use lib.Count.{ones, ones-le}
 use Rattle.rules.specs.declared.Rule.{Rule}
 use Rattle.rules.specs.Words.{setBits}
-use Rattle.rules.specs.Rules.{matches, choose, first, answer, noMatch, position, Valid, covers, crosses, stars, mergeable, merged}
+use Rattle.rules.specs.Rules.{matches, choose, first, answer, position, Valid, covers, crosses, stars, mergeable, merged}
 use Rattle.rules.specs.Slices.{ruleAt, blank}
-use Rattle.rules.proofs.Tests.{split, true-false, never-true, eqb-yes, yes-eqb, no-eqb, and-true, true-and, or-true, true-or, same-test}
+use Rattle.rules.proofs.Tests.{split, true-false, eqb-yes, yes-eqb, no-eqb, and-true, true-and, or-true, true-or, same-test}
 use Rattle.rules.proofs.BitLaws.{setBits-ones, ones-sub, ones-same, sub-xor, xor-within, merged-of-one, one-of-merged, merged-within, and-sub}
 
 -- ---- matching

@@ -1,12 +1,12 @@
 -- Laws of `rulesOf`: how the rules of three slices follow the slices.
-use mathlib.Core.Path.{_≡_, refl, sym, ap, ap₂, _∙_}
-use mathlib.Core.Logic.{_⊎_, inl, inr, ⊎-elim}
+use mathlib.Core.Path.{_≡_, refl, sym, ap, _∙_}
+use mathlib.Core.Logic.{_⊎_, ⊎-elim}
 use mathlib.Core.List.{List, [], _∷_, _++_, map}
-use mathlib.Core.Bool.{Bool, true, false, _&&_}
+use mathlib.Core.Bool.{Bool, true, false}
 use Prim.Native.Nat.{ℕ, zero, suc, _+_, _-_, _≤_, _<_}
 use native.Mathlib.Omega.{arith}
 use lib.Dec.{ltb}
-use lib.ListN.{length, getD, take, drop, set, length-set, List·getD-eq-default}
+use lib.ListN.{length, getD, take, set, length-set, List·getD-eq-default}
 use lib.Seq.{set-out}
 use borrow.Author.Tests.{lt-ltb, ltb-true, ltb-false}
 use Rattle.rules.specs.declared.Rule.{Rule}

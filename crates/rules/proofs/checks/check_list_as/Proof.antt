@@ -1,5 +1,5 @@
 use Rattle.rules.proofs.CheckLaws.{width-most, list-one, list-two-values, list-two-decisions, list-three, list-rules}
-use mathlib.Core.Path.{_≡_, refl, sym, ap, _∙_}
+use mathlib.Core.Path.{sym, _∙_}
 use borrow.Author.Needs.{needs}
 use Rattle.rules.proofs.checks.check_list_as.Statement.{statement}
 use Rattle.rules.proofs.checks.check_list_as.Tie as tie

@@ -1,7 +1,7 @@
 use Rattle.rules.specs.Calls.{checkRule}
 use Rattle.rules.proofs.ReplyLaws.{then-next, then-refuses}
 use Rattle.rules.proofs.CheckLaws.{width-yes, width-no, width-most}
-use mathlib.Core.Path.{_≡_, refl, sym, ap, _∙_}
+use mathlib.Core.Path.{sym, _∙_}
 use borrow.Author.Needs.{needs}
 use Rattle.rules.proofs.checks.check_rule.Statement.{statement}
 use Rattle.rules.proofs.checks.check_rule.Tie as tie

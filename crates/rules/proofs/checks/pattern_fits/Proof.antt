@@ -1,5 +1,5 @@
 use Rattle.rules.specs.Checks.{patternFits}
-use mathlib.Core.Path.{_≡_, refl, sym, ap, _∙_}
+use mathlib.Core.Path.{sym, _∙_}
 use Rattle.rules.proofs.Tests.{and-on, and-off}
 use borrow.Author.Needs.{needs}
 use Rattle.rules.proofs.checks.pattern_fits.Statement.{statement}

@@ -1,6 +1,6 @@
 use Rattle.rules.proofs.CheckLaws.{rule-four, rule-five, rule-fine}
-use borrow.Author.Tests.{eq-eqb, ne-eqb, lt-ltb, le-ltb, le-leb, lt-leb}
-use mathlib.Core.Path.{_≡_, refl, sym, ap, _∙_}
+use borrow.Author.Tests.{lt-ltb, le-ltb}
+use mathlib.Core.Path.{sym, _∙_}
 use borrow.Author.Needs.{needs}
 use Rattle.rules.proofs.checks.rule_verdict.Statement.{statement}
 use Rattle.rules.proofs.checks.rule_verdict.Tie as tie

@@ -1,11 +1,9 @@
 use Rattle.rules.proofs.SliceLaws.{below-rules, few-cares}
-use Rattle.rules.proofs.SliceLaws.{rules-length}
 use Rattle.rules.proofs.CheckLaws.{rules-pass, rules-stop, rules-end}
-use Rattle.rules.specs.Replies.{verdictReply}
-use Rattle.rules.specs.Slices.{rulesOf, ruleAt}
+use Rattle.rules.specs.Slices.{rulesOf}
 use Rattle.rules.specs.Checks.{ruleCheck, rulesCheck}
 use lib.ListN.{length, drop}
-use Prim.Native.Nat.{ℕ, suc, _+_, _-_, _≤_, _<_}
+use Prim.Native.Nat.{_+_, _-_, _≤_}
 use borrow.Author.Needs.{needs}
 use native.Mathlib.Omega.{arith}
 use mathlib.Core.Path.{_≡_, refl, sym, ap, _∙_}

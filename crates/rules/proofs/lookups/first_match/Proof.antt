@@ -1,10 +1,9 @@
 use Rattle.rules.proofs.FoundLaws.{Passed, passed-none, passed-hit, passed-more, passed-all}
-use Rattle.rules.specs.Slices.{rulesOf, ruleAt}
-use lib.ListN.{length, drop}
-use Prim.Native.Nat.{ℕ, suc, _+_, _-_, _≤_, _<_}
+use Rattle.rules.specs.Slices.{rulesOf}
+use lib.ListN.{length}
+use Prim.Native.Nat.{_-_, _≤_}
 use borrow.Author.Needs.{needs}
 use native.Mathlib.Omega.{arith}
-use mathlib.Core.Path.{_≡_, refl, sym, ap, _∙_}
 use Rattle.rules.proofs.lookups.first_match.Statement.{statement}
 use Rattle.rules.proofs.lookups.first_match.Tie as tie
 use Rattle.rules.proofs.lookups.first_match.Reads as reads

@@ -1,7 +1,7 @@
 use Rattle.rules.proofs.FoundLaws.{looked-sound, looked-six, looked-hit, looked-miss}
 use Rattle.rules.proofs.ReplyLaws.{refused-stop}
 use Rattle.rules.specs.Calls.{lookedUp}
-use mathlib.Core.Path.{_≡_, refl, sym, ap, _∙_}
+use mathlib.Core.Path.{sym}
 use borrow.Author.Needs.{needs}
 use Rattle.rules.proofs.lookups.lookup.Statement.{statement}
 use Rattle.rules.proofs.lookups.lookup.Tie as tie

@@ -1,6 +1,6 @@
 use Rattle.rules.proofs.ReplyLaws.{fine-next, refused-stop}
 use Rattle.rules.specs.Calls.{coversReply, yesOrNo}
-use mathlib.Core.Path.{_≡_, refl, sym, ap, _∙_}
+use mathlib.Core.Path.{sym, ap, _∙_}
 use borrow.Author.Needs.{needs}
 use Rattle.rules.proofs.pairs.covers.Statement.{statement}
 use Rattle.rules.proofs.pairs.covers.Tie as tie

@@ -3,7 +3,7 @@ use mathlib.Core.List.{[], _∷_}
 use Rattle.rules.specs.Replies.{Gives}
 use Rattle.rules.proofs.ReplyLaws.{fine-next, refused-stop}
 use Rattle.rules.specs.Calls.{distanceReply}
-use mathlib.Core.Path.{_≡_, refl, sym, ap, _∙_}
+use mathlib.Core.Path.{sym, ap, _∙_}
 use borrow.Author.Needs.{needs}
 use Rattle.rules.proofs.pairs.distance.Statement.{statement}
 use Rattle.rules.proofs.pairs.distance.Tie as tie

@@ -5,7 +5,7 @@ use Rattle.rules.specs.Checks.{widthCheck}
 use Rattle.rules.specs.Calls.{pairCheck, checkRule}
 use Rattle.rules.proofs.ReplyLaws.{fine-next, verdict-stop}
 use Rattle.rules.specs.Calls.{pairCheck}
-use mathlib.Core.Path.{_≡_, refl, sym, ap, _∙_}
+use mathlib.Core.Path.{_≡_, sym, ap, _∙_}
 use borrow.Author.Needs.{needs}
 use Rattle.rules.proofs.pairs.pair_verdict.Statement.{statement}
 use Rattle.rules.proofs.pairs.pair_verdict.Tie as tie

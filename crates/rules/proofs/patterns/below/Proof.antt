@@ -1,6 +1,6 @@
 use native.Mathlib.Omega.{arith}
-use mathlib.Core.Path.{_≡_, refl, sym, ap, _∙_}
-use borrow.Author.Tests.{eq-eqb, ne-eqb, lt-ltb, le-ltb, le-leb, lt-leb}
+use mathlib.Core.Path.{sym}
+use borrow.Author.Tests.{lt-ltb}
 use Rattle.rules.proofs.BitLaws.{below-shift, below-full}
 use borrow.Author.Needs.{needs}
 use Rattle.rules.proofs.patterns.below.Statement.{statement}

@@ -1,6 +1,6 @@
 use Rattle.rules.specs.Rules.{covers}
-use mathlib.Core.Path.{_≡_, refl, sym, ap, _∙_}
-use borrow.Author.Tests.{eq-eqb, ne-eqb, lt-ltb, le-ltb, le-leb, lt-leb}
+use mathlib.Core.Path.{_∙_}
+use borrow.Author.Tests.{eq-eqb, ne-eqb}
 use Rattle.rules.proofs.Tests.{and-on, and-off}
 use Rattle.rules.proofs.patterns.rule_covers.Statement.{statement}
 use Rattle.rules.proofs.patterns.rule_covers.Tie as tie

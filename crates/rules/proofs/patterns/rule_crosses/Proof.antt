@@ -1,7 +1,7 @@
 use mathlib.Core.Bool.{not}
 use Rattle.rules.specs.Rules.{crosses}
-use mathlib.Core.Path.{_≡_, refl, sym, ap, _∙_}
-use borrow.Author.Tests.{eq-eqb, ne-eqb, lt-ltb, le-ltb, le-leb, lt-leb}
+use mathlib.Core.Path.{ap, _∙_}
+use borrow.Author.Tests.{eq-eqb, ne-eqb}
 use Rattle.rules.proofs.Tests.{and-on, and-off}
 use Rattle.rules.proofs.patterns.rule_crosses.Statement.{statement}
 use Rattle.rules.proofs.patterns.rule_crosses.Tie as tie

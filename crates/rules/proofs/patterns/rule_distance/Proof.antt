@@ -1,6 +1,6 @@
 use Rattle.rules.proofs.BitLaws.{setBits-ones}
 use Rattle.rules.specs.Rules.{distance}
-use mathlib.Core.Path.{_≡_, refl, sym, ap, _∙_}
+use mathlib.Core.Path.{sym}
 use Rattle.rules.proofs.patterns.rule_distance.Statement.{statement}
 use Rattle.rules.proofs.patterns.rule_distance.Tie as tie
 use Rattle.rules.proofs.patterns.rule_distance.Reads as reads

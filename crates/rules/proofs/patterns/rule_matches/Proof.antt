@@ -1,5 +1,5 @@
 use Rattle.rules.specs.Rules.{matches}
-use mathlib.Core.Path.{_≡_, refl, sym, ap, _∙_}
+use mathlib.Core.Path.{refl}
 use Rattle.rules.proofs.patterns.rule_matches.Statement.{statement}
 use Rattle.rules.proofs.patterns.rule_matches.Tie as tie
 use Rattle.rules.proofs.patterns.rule_matches.Reads as reads

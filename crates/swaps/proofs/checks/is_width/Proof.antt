@@ -1,5 +1,5 @@
-use mathlib.Core.Path.{_≡_, refl, sym, ap, _∙_}
-use borrow.Author.Tests.{eq-eqb, ne-eqb, lt-ltb, le-ltb, le-leb, lt-leb}
+use mathlib.Core.Path.{_∙_}
+use borrow.Author.Tests.{le-leb, lt-leb}
 use Rattle.rules.proofs.Tests.{and-on, and-off}
 use Rattle.swaps.proofs.checks.is_width.Statement.{statement}
 use Rattle.swaps.proofs.checks.is_width.Tie as tie
