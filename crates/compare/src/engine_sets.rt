@@ -14,8 +14,8 @@ pub(crate) struct Cube {
     pub value: u64,
 }
 
-// A rule in play, `at`; the bits `left` of the word that rules 64 `word` on stand in, which come after it; and of word 0 the
-// bits `rest` of the words after that.
+// A rule in play, `at`, which stands in word 1 + `word`; the bits `left` of that word for the rules after it; and of word 0 the
+// bits `rest` for the words after that.
 pub(crate) struct Spot {
     pub at: usize,
     pub word: usize,

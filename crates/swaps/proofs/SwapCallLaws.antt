@@ -11,11 +11,11 @@ use Rattle.rules.specs.declared.Verdict.{Verdict}
 use Rattle.swaps.specs.declared.swaps.Swap.{Swap}
 use Rattle.swaps.specs.declared.swaps.SwapAnswer.{SwapAnswer}
 use Rattle.rules.specs.Rules.{noMatch, Valid}
-use Rattle.rules.specs.Replies.{Reply, Gives, Refuses, passed, need, _then_, refusalReply, verdictReply}
+use Rattle.rules.specs.Replies.{Reply, Gives, Refuses, passed, need, _then_, refusalReply, verdictReply, unlessRefused}
 use Rattle.rules.specs.Checks.{widthCheck, patternFits, ruleCheck, headerCheck}
 use Rattle.rules.specs.Calls.{checkRule}
 use Rattle.swaps.specs.Swaps.{good}
-use Rattle.swaps.specs.SwapCalls.{swapOf, noSwap, swapIf, SwapGiven, placesCheck, checkSwap, checkSwapRule, checkSwapHeader, checkSwaps}
+use Rattle.swaps.specs.SwapCalls.{swapOf, noSwap, SwapGiven, placesCheck, checkSwap, checkSwapRule, checkSwapHeader, checkSwaps}
 use Rattle.rules.proofs.Tests.{eqb-yes}
 use Rattle.rules.proofs.ReplyLaws.{then-next, then-refuses, then-assoc, then-second, fine-next, verdict-stop, need-yes, need-no, need-passed, need-then, gives-refuses}
 use Rattle.rules.proofs.CheckLaws.{width-yes, width-no, width-passed, width-then, rule-fine, rule-valid, header-yes, header-no}
@@ -161,7 +161,7 @@ module _ (size : ℕ) (check : Reply) (s : Swap) (v : Verdict) (e : verdictReply
       let c : refusalReply x ≡ check = sym (ap verdictReply f) ∙ e in
       record {
         verdict = ap verdictReply (g .0) ∙ c;
-        swap = g .1 ∙ ap (λ (k : Reply). swapIf size k s) c;
+        swap = g .1 ∙ ap (λ (k : Reply). unlessRefused k s (noSwap size)) c;
       }
 
   pub given-fine : (ps : List ℕ) (w : ℕ) → v ≡ Verdict.Fine → swapOf ps w ≡ s
@@ -170,7 +170,7 @@ module _ (size : ℕ) (check : Reply) (s : Swap) (v : Verdict) (e : verdictReply
       let c : passed ≡ check = sym (ap verdictReply f) ∙ e in
       record {
         verdict = c;
-        swap = q ∙ ap (λ (k : Reply). swapIf size k s) c;
+        swap = q ∙ ap (λ (k : Reply). unlessRefused k s (noSwap size)) c;
       }
 
 -- ---- a rule that passed, before its swap

@@ -10,7 +10,7 @@ use Rattle.swaps.specs.declared.swaps.MovedRule.{MovedRule}
 use Rattle.swaps.specs.declared.swaps.ToSwapped.{ToSwapped}
 use Rattle.swaps.specs.declared.swaps.ToWire.{ToWire}
 use Rattle.swaps.specs.declared.swaps.SwapAnswer.{SwapAnswer}
-use Rattle.rules.specs.Replies.{Reply, Gives, Refuses, need, _then_, refusalReply, verdictReply}
+use Rattle.rules.specs.Replies.{Reply, Gives, need, _then_, refusalReply, verdictReply, unlessRefused}
 use Rattle.rules.specs.Checks.{widthCheck, headerCheck}
 use Rattle.rules.specs.Calls.{checkRule}
 use Rattle.swaps.specs.Swaps.{moved, movedRule, good, inverse, composed}
@@ -41,15 +41,10 @@ swapOf ps w = record { places = ps; width = w }
 abbrev pub noSwap : (size : ℕ) → Swap
 noSwap size = swapOf (replicate size 0) 0
 
--- A swap where the check is passed, else the swap of zeros.
-abbrev pub swapIf : (size : ℕ) → (check : Reply) → Swap → Swap
-swapIf size (Gives ns) s = s
-swapIf size (Refuses n l r) s = noSwap size
-
--- A call that hands back a swap: what its checks say, and the swap.
+-- A call that hands back a swap: what its checks say, and the swap, or the swap of zeros where it is refused.
 pub record SwapGiven (size : ℕ) (check : Reply) (s : Swap) (a : SwapAnswer) : Type 0 where
   pub verdict : verdictReply (a .verdict) ≡ check
-  pub swap : a .swap ≡ swapIf size check s
+  pub swap : a .swap ≡ unlessRefused check s (noSwap size)
 
 -- ---- the checks (01: swap calls check 1 of the swap's width, 4, 5, 6, 9, the first swap's faults before the second's,
 -- unlike widths last)
