@@ -4,15 +4,13 @@ use mathlib.Core.List.{List, [], _∷_}
 use mathlib.Core.Bool.{Bool}
 use Prim.Native.Nat.{ℕ, _+_, _-_, _*_, _≤_, _<_}
 use native.Mathlib.Omega.{arith}
-use lib.Dec.{leb, eqb}
+use lib.Dec.{leb}
 use lib.ListN.{length, drop}
-use borrow.Author.Tests.{eq-eqb, ne-eqb, le-leb, lt-leb}
+use borrow.Author.Tests.{le-leb, lt-leb}
 use Rattle.rules.specs.declared.Refusal.{Refusal}
 use Rattle.rules.specs.declared.Verdict.{Verdict}
-use Rattle.rules.specs.Replies.{Reply, Gives, Refuses, passed, need, _then_, verdictReply, refusalReply, unlessRefused}
-use Rattle.rules.specs.Checks.{lengthsCheck, roomCheck}
-use Rattle.rules.proofs.Tests.{true-and, and-on, and-off}
-use Rattle.rules.proofs.ReplyLaws.{then-next, then-refuses, fine-next, refused-stop, need-yes, need-no}
+use Rattle.rules.specs.Replies.{Reply, Gives, Refuses, need, _then_, verdictReply, refusalReply, unlessRefused}
+use Rattle.rules.proofs.ReplyLaws.{then-next, then-refuses, fine-next, refused-stop}
 use Rattle.image.specs.declared.Outcome.{Outcome}
 use Rattle.image.specs.declared.places.Place.{Place}
 use Rattle.image.specs.Bytes.{num}
@@ -24,6 +22,7 @@ use Rattle.image.specs.Calls.{entryReply, entryNumber, idCheck, readRepl
 use Rattle.image.specs.Filled.{Filled}
 use Rattle.image.proofs.NumberLaws.{num-in}
 use Rattle.image.proofs.SeekLaws.{entry-stands}
+use Rattle.rules.proofs.CheckLaws.{lengths-values, lengths-decisions, lengths-yes, room-yes, room-no}
 
 -- ---- an entry
 
@@ -46,28 +45,6 @@ module _ (b : List ℕ) (k : ℕ) (v : Verdict) (p : verdictReply v ≡ imageChe
       ∙ ap (λ (t : Bool). need t 15 0 0 then Gives (entryNumber b k .id ∷ entryNumber b k .count ∷ [])) (le-leb k (countIn b) m)
       ∙ ap (λ (z : Entry). Gives (z .id ∷ z .count ∷ [])) (entry-stands b (k - 1) (entryWith 0 0 0) (omega arith))
       ∙ (λ j. Gives ((num-in 2 (4 + 8 * (k - 1)) 6 b ∙ sym x) j ∷ (num-in 2 (4 + 8 * (k - 1)) 4 b ∙ sym y) j ∷ [])))
-
--- ---- the lengths of slices, and room
-
-pub lengths-values : (cs vs ds : List ℕ) → (length cs ≡ length vs → ⊥) → lengthsCheck cs vs ds ≡ Refuses 2 0 0
-unfolding lengthsCheck
-lengths-values cs vs ds n = need-no _ 2 0 0 (sym (and-off (eqb (length cs) (length ds)) (ne-eqb (length cs) (length vs) n)))
-
-pub lengths-decisions : (cs vs ds : List ℕ) → length cs ≡ length vs → (length cs ≡ length ds → ⊥) → lengthsCheck cs vs ds ≡ Refuses 2 0 0
-unfolding lengthsCheck
-lengths-decisions cs vs ds e n = need-no _ 2 0 0 (sym (sym (ne-eqb _ _ n) ∙ and-on (eq-eqb _ _ e)))
-
-pub lengths-yes : (cs vs ds : List ℕ) → length cs ≡ length vs → length cs ≡ length ds → lengthsCheck cs vs ds ≡ passed
-unfolding lengthsCheck
-lengths-yes cs vs ds e f = need-yes _ 2 0 0 (true-and (eq-eqb _ _ e) (eq-eqb _ _ f))
-
-pub room-no : (n m : ℕ) → m < n → roomCheck n m ≡ Refuses 7 0 0
-unfolding roomCheck
-room-no n m h = need-no _ 7 0 0 (lt-leb _ _ h)
-
-pub room-yes : (n m : ℕ) → n ≤ m → roomCheck n m ≡ passed
-unfolding roomCheck
-room-yes n m h = need-yes _ 7 0 0 (le-leb _ _ h)
 
 -- ---- reading out
 

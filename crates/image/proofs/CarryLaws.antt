@@ -13,7 +13,7 @@ use Rattle.rules.specs.Replies.{passed, need}
 use Rattle.rules.specs.Checks.{sizeCheck}
 use Rattle.rules.specs.Slices.{rulesOf}
 use Rattle.rules.proofs.ReplyLaws.{then-next, then-second, need-then, need-yes}
-use Rattle.rules.proofs.CheckLaws.{width-yes}
+use Rattle.rules.proofs.CheckLaws.{width-yes, lengths-yes, room-yes}
 use Rattle.rules.proofs.Tests.{true-and}
 use Rattle.image.specs.Bytes.{le}
 use Rattle.image.specs.Images.{Named, named, Entry, listsIn, total, countIn, widthIn, entriesIn, entriesOf, listsOf}
@@ -24,10 +24,10 @@ use Rattle.image.proofs.BareLaws.{bare-first, bare-entry, bare-head, ba
 use Rattle.image.proofs.HeadLaws.{entry-facts, head-facts}
 use Rattle.image.proofs.StepLaws.{contents-total}
 use Rattle.image.proofs.SeekLaws.{length-rulesIn}
-use Rattle.image.proofs.AskLaws.{lengths-yes, room-yes}
 use Rattle.image.proofs.WriteLaws.{WriteFacts, length-cut, rules-given}
 use Rattle.image.proofs.BackLaws.{AreBytes, bytes-drop, length-listsOf}
 use Rattle.image.proofs.AgainLaws.{Rising, allRules, Carried}
+use Rattle.rules.proofs.SliceLaws.{rules-columns}
 
 -- ---- from a writer's arguments
 
@@ -110,12 +110,6 @@ cut-joined [] = refl
 cut-joined (l ∷ ls) =
     (λ j. named (l .id) (take-at (l .rules) (joined ls) (length (l .rules)) refl j) ∷ cut (namesOf ls) (countsOf ls) (drop-at (l .rules) (joined ls) (length (l .rules)) refl j))
     ∙ ap (λ (k : List Named). l ∷ k) (cut-joined ls)
-
--- rules in three slices
-pub rules-columns : (rs : List Rule) → rulesOf (map careOf rs) (map valueOf rs) (map decisionOf rs) ≡ rs
-unfolding rulesOf
-rules-columns [] = refl
-rules-columns (r ∷ rs) = ap (λ (k : List Rule). r ∷ k) (rules-columns rs)
 
 pub length-column : (f : Rule → ℕ) (rs : List Rule) → length (map f rs) ≡ length rs
 length-column f [] = refl

@@ -38,17 +38,12 @@ use Rattle.image.proofs.BareLaws.{bare-first, bare-then, bare-need, bar
 use Rattle.image.proofs.HeadLaws.{entry-facts}
 use Rattle.image.proofs.StepLaws.{entries-step}
 use Rattle.image.proofs.SeekLaws.{image-facts, place-fits, place-start, place-here, entry-stands, length-rulesIn}
+use Rattle.rules.proofs.SliceLaws.{rules-columns}
 
 -- ---- rules in three slices
 
--- the three fields of each rule are the rules again
-pub rules-again : (rs : List Rule) → rulesOf (map careOf rs) (map valueOf rs) (map decisionOf rs) ≡ rs
-unfolding rulesOf
-rules-again [] = refl
-rules-again (x ∷ xs) = ap (λ (k : List Rule). x ∷ k) (rules-again xs)
-
 pub held-rules : (n : ℕ) (rs : List Rule) (c v d : List ℕ) → Held n rs c v d → rulesOf (take n c) (take n v) (take n d) ≡ rs
-held-rules n rs c v d h = (λ j. rulesOf (h .cares j) (h .values j) (h .decisions j)) ∙ rules-again rs
+held-rules n rs c v d h = (λ j. rulesOf (h .cares j) (h .values j) (h .decisions j)) ∙ rules-columns rs
 
 pub filled-held : (n : ℕ) (rs : List Rule) (c v d c′ v′ d′ : List ℕ) → length rs ≡ n → Filled rs c v d c′ v′ d′ → Held n rs c′ v′ d′
 filled-held n rs c v d c′ v′ d′ e f =

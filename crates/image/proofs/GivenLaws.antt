@@ -18,14 +18,13 @@ use Rattle.rules.specs.Calls.{checkList}
 use Rattle.rules.specs.Slices.{rulesOf, Lent}
 use Rattle.rules.proofs.Tests.{true-and, and-true, same-test, eqb-yes, yes-eqb}
 use Rattle.rules.proofs.ReplyLaws.{then-next, then-refuses, fine-next, verdict-stop, need-yes, need-no, need-then, need-passed, then-second}
-use Rattle.rules.proofs.CheckLaws.{width-yes, width-then, width-passed, list-rules}
+use Rattle.rules.proofs.CheckLaws.{width-yes, width-then, width-passed, list-rules, lengths-values, lengths-decisions, lengths-yes, room-yes, room-no}
 use Rattle.rules.proofs.SliceLaws.{rules-take}
 use Rattle.image.specs.Bytes.{part}
 use Rattle.image.specs.Checks.{listsCheck}
 use Rattle.image.specs.Writing.{sumOf, cut, given, namesCheck, imageLength, givenCheck, shapeCheck, writeCheck}
 use Rattle.image.proofs.NumberLaws.{length-part}
 use Rattle.image.proofs.BareLaws.{Bare, bare-need, bare-then, bare-first}
-use Rattle.image.proofs.AskLaws.{lengths-values, lengths-decisions, lengths-yes, room-yes, room-no}
 
 -- ---- counts
 

@@ -27,7 +27,8 @@ use Rattle.image.proofs.SeekLaws.{image-facts, place-fits}
 use Rattle.image.proofs.WriteLaws.{write-facts}
 use Rattle.image.proofs.BackLaws.{AreBytes, bytes-drop, rules-back, read-write}
 use Rattle.image.proofs.AgainLaws.{Carried, carried-passes, carried-back}
-use Rattle.image.proofs.CarryLaws.{facts-carried, image-carried, ids-fit, namesOf, countsOf, joined, rules-columns, cut-joined, length-names, length-joined, length-column, carried-writes}
+use Rattle.image.proofs.CarryLaws.{facts-carried, image-carried, ids-fit, namesOf, countsOf, joined, cut-joined, length-names, length-joined, length-column, carried-writes}
+use Rattle.rules.proofs.SliceLaws.{rules-columns}
 
 -- ids as they are lent: two bytes each
 abbrev pub AreIds : List ℕ → Type 0

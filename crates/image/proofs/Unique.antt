@@ -4,7 +4,7 @@ use mathlib.Core.List.{List, [], _∷_}
 use Prim.Native.Nat.{ℕ}
 use Rattle.rules.specs.declared.Verdict.{Verdict}
 use Rattle.rules.specs.Replies.{Gives, verdictReply}
-use Rattle.rules.proofs.ReplyLaws.{gives-refuses, one-refusal, one-verdict}
+use Rattle.rules.proofs.ReplyLaws.{gives-refuses, one-refusal, one-verdict, one-value}
 use Rattle.image.specs.declared.Outcome.{Outcome}
 use Rattle.image.specs.declared.Listed.{Listed}
 use Rattle.image.specs.Checks.{imageCheck}
@@ -14,11 +14,8 @@ use Rattle.image.specs.Writing.{Written}
 
 -- ---- one answer for each reply
 
-one-number : {m n : ℕ} → Gives (m ∷ []) ≡ Gives (n ∷ []) → m ≡ n
-one-number e = cc
-
 pub one-outcome : (x y : Outcome) → outcomeReply x ≡ outcomeReply y → x ≡ y
-one-outcome (Outcome.Number m) (Outcome.Number n) e = ap Outcome.Number (one-number e)
+one-outcome (Outcome.Number m) (Outcome.Number n) e = ap Outcome.Number (one-value e)
 one-outcome (Outcome.Number m) (Outcome.Refused b) e = absurd (gives-refuses e)
 one-outcome (Outcome.Refused a) (Outcome.Number n) e = absurd (gives-refuses (sym e))
 one-outcome (Outcome.Refused a) (Outcome.Refused b) e = ap Outcome.Refused (one-refusal a b e)

@@ -16,11 +16,11 @@ use Rattle.rules.specs.declared.Verdict.{Verdict}
 use Rattle.rules.specs.Rules.{noMatch, Valid}
 use Rattle.rules.specs.Slices.{rulesOf, ruleAt, blank, Lent}
 use Rattle.rules.specs.Replies.{Reply, Gives, Refuses, passed, need, _then_, verdictReply}
-use Rattle.rules.specs.Checks.{widthCheck, lengthsCheck, sizeCheck, patternFits, ruleCheck, rulesCheck, listCheck, headerCheck}
+use Rattle.rules.specs.Checks.{widthCheck, lengthsCheck, sizeCheck, patternFits, ruleCheck, rulesCheck, listCheck, headerCheck, roomCheck}
 use Rattle.rules.specs.Calls.{checkList}
 use Rattle.rules.specs.Lists.{All}
 use Rattle.rules.proofs.Tests.{and-true, true-and, and-on, and-off, eqb-yes, yes-eqb}
-use Rattle.rules.proofs.ReplyLaws.{then-next, fine-next, verdict-stop, need-yes, need-no, need-passed, need-then, then-second, gives-refuses}
+use Rattle.rules.proofs.ReplyLaws.{then-next, then-refuses, fine-next, verdict-stop, need-yes, need-no, need-passed, need-then, then-second, gives-refuses}
 
 -- ---- the width
 
@@ -45,6 +45,28 @@ width-passed w e =
 pub width-then : (w : ℕ) (b : Reply) (ns : List ℕ) → (widthCheck w then b) ≡ Gives ns → widthCheck w ≡ passed
 unfolding widthCheck
 width-then w b ns e = need-yes _ 1 0 0 (need-then (leb 1 w && leb w 64) 1 0 0 b ns e)
+
+-- ---- the lengths of slices, and room
+
+pub lengths-values : (cs vs ds : List ℕ) → (length cs ≡ length vs → ⊥) → lengthsCheck cs vs ds ≡ Refuses 2 0 0
+unfolding lengthsCheck
+lengths-values cs vs ds n = need-no _ 2 0 0 (sym (and-off (eqb (length cs) (length ds)) (ne-eqb (length cs) (length vs) n)))
+
+pub lengths-decisions : (cs vs ds : List ℕ) → length cs ≡ length vs → (length cs ≡ length ds → ⊥) → lengthsCheck cs vs ds ≡ Refuses 2 0 0
+unfolding lengthsCheck
+lengths-decisions cs vs ds e n = need-no _ 2 0 0 (sym (sym (ne-eqb _ _ n) ∙ and-on (eq-eqb _ _ e)))
+
+pub lengths-yes : (cs vs ds : List ℕ) → length cs ≡ length vs → length cs ≡ length ds → lengthsCheck cs vs ds ≡ passed
+unfolding lengthsCheck
+lengths-yes cs vs ds e f = need-yes _ 2 0 0 (true-and (eq-eqb _ _ e) (eq-eqb _ _ f))
+
+pub room-no : (n m : ℕ) → m < n → roomCheck n m ≡ Refuses 7 0 0
+unfolding roomCheck
+room-no n m h = need-no _ 7 0 0 (lt-leb _ _ h)
+
+pub room-yes : (n m : ℕ) → n ≤ m → roomCheck n m ≡ passed
+unfolding roomCheck
+room-yes n m h = need-yes _ 7 0 0 (le-leb _ _ h)
 
 -- ---- one rule
 
@@ -105,20 +127,18 @@ module _ (w l : ℕ) (cs vs ds : List ℕ) where
     unfolding checkList
     list-checks = then-next _ _ (width-yes w good)
 
-    unequal : (eqb (length cs) (length vs) && eqb (length cs) (length ds)) ≡ false → checkList w l cs vs ds ≡ Refuses 2 0 0
-    unfolding listCheck lengthsCheck
-    unequal e = list-checks ∙ ap (λ (t : Bool). need t 2 0 0 then sizeCheck l (length cs) then rulesCheck w l 1 (rulesOf cs vs ds)) e
-
     pub list-two-values : (length cs ≡ length vs → ⊥) → checkList w l cs vs ds ≡ Refuses 2 0 0
-    list-two-values n = unequal (sym (and-off _ (ne-eqb _ _ n)))
+    unfolding listCheck
+    list-two-values n = list-checks ∙ then-refuses _ _ (lengths-values cs vs ds n)
 
     pub list-two-decisions : length cs ≡ length vs → (length cs ≡ length ds → ⊥) → checkList w l cs vs ds ≡ Refuses 2 0 0
-    list-two-decisions e n = unequal (sym (sym (ne-eqb _ _ n) ∙ and-on (eq-eqb _ _ e)))
+    unfolding listCheck
+    list-two-decisions e n = list-checks ∙ then-refuses _ _ (lengths-decisions cs vs ds e n)
 
     module _ (e : length cs ≡ length vs) (f : length cs ≡ length ds) where
       equal : checkList w l cs vs ds ≡ (sizeCheck l (length cs) then rulesCheck w l 1 (rulesOf cs vs ds))
-      unfolding listCheck lengthsCheck
-      equal = list-checks ∙ then-next _ _ (need-yes _ 2 0 0 (true-and (eq-eqb _ _ e) (eq-eqb _ _ f)))
+      unfolding listCheck
+      equal = list-checks ∙ then-next _ _ (lengths-yes cs vs ds e f)
 
       pub list-three : 1024 < length cs → checkList w l cs vs ds ≡ Refuses 3 l 0
       unfolding sizeCheck

@@ -2,7 +2,7 @@
 use mathlib.Core.Path.{_≡_, refl, sym, ap, ap₂, _∙_, subst}
 use mathlib.Core.Logic.{_⊎_, inl, inr, _≢_}
 use mathlib.Core.List.{List, [], _∷_, _++_}
-use mathlib.Core.Bool.{Bool, true, false, not}
+use mathlib.Core.Bool.{true, not}
 use Prim.Native.Nat.{ℕ, zero, suc, _+_, _-_, _/_, _%_, _^_, _≤_, _<_, min}
 use native.Mathlib.Omega.{arith}
 use native.Mathlib.Nat.{lt-of-lt-of-le, div-eq-of-lt, pow-suc}
@@ -14,10 +14,10 @@ use lib.ListN.{length}
 use lib.Pow.{pow-mono}
 use Rattle.rules.specs.declared.Rule.{Rule}
 use Rattle.rules.specs.Words.{bit, placeBit, setBits}
-use Rattle.rules.specs.Rules.{matches, choose, first, answer, noMatch, position, Valid, covers, crosses, distance, stars}
-use Rattle.rules.proofs.Tests.{split, never-true, eqb-yes, yes-eqb, no-eqb, and-true, true-and}
+use Rattle.rules.specs.Rules.{matches, first, answer, noMatch, position, Valid, covers, crosses, distance, stars}
+use Rattle.rules.proofs.Tests.{split, never-true, eqb-yes, yes-eqb, no-eqb, and-true, true-and, not-true}
 use Rattle.rules.proofs.BitLaws.{xor-odd, bit-and, bit-suc, same-bits, bit<2, zero-or-one, ones-zero, setBits-ones}
-use Rattle.rules.proofs.RuleLaws.{matches-yes, yes-matches, sub-covers, first-hit, first-miss, first-append}
+use Rattle.rules.proofs.RuleLaws.{matches-yes, yes-matches, sub-covers, first-hit, first-miss, first-append, position-miss}
 
 -- ---- places
 
@@ -142,11 +142,6 @@ places-covers w a b v u e =
     (yes-eqb _ _ (same-words w _ _ (and-fits w (b .value) (a .care) (v .fits)) (value-fits v) (λ p l.
     bit-and (b .value) (a .care) (w - p)
     ∙ masked _ _ _ (bit<2 (b .value) (w - p)) (bit<2 (a .care) (w - p)) (value-within v (w - p)) (λ c. sym (e p l c .1)))))
-
--- a test that is denied to be true is false
-not-true : (b : Bool) → not b ≡ true → b ≡ false
-not-true true e = sym e
-not-true false e = refl
 
 -- a word of width w that does not lie within another has a place that the other lacks
 lacking : (w c d : ℕ) → c < 2 ^ w → bitAnd c d ≢ c → (p : ℕ) × Place w p × (placeBit w d p ≡ 0) × (placeBit w c p ≡ 1)
@@ -336,11 +331,6 @@ one-place-differs a b o =
 -- a joined list answers as its first part does, and where that has no match as its second part
 pub answer-joined : (xs ys : List Rule) (h : ℕ) → answer (xs ++ ys) h ≡ first xs h (answer ys h)
 answer-joined xs ys h = first-append xs ys h noMatch
-
--- a rule that does not match moves the first match by one
-position-miss : (r : Rule) (rs : List Rule) (h : ℕ) → matches r h ≡ false → position (r ∷ rs) h ≡ suc (position rs h)
-unfolding position
-position-miss r rs h e = ap (λ (b : Bool). choose b 0 (suc (position rs h))) e
 
 -- where a list has a match, its first answer needs no other
 first-found : (xs : List Rule) (h d e : ℕ) → position xs h < length xs → first xs h d ≡ first xs h e

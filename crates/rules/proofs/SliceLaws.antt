@@ -73,6 +73,12 @@ rules-append (c ∷ cs) (v ∷ vs) (d ∷ ds) c′ v′ d′ l =
     ap (λ (k : List Rule). rule c v d ∷ k) (rules-append cs vs ds c′ v′ d′ (record { values = omega arith; decisions = omega arith }))
 
 -- the rules fix the three slices: what is promised of the rules is promised of each slice
+-- the three fields of each rule are the rules again
+pub rules-columns : (rs : List Rule) → rulesOf (map (λ (r : Rule). r .care) rs) (map (λ (r : Rule). r .value) rs) (map (λ (r : Rule). r .decision) rs) ≡ rs
+unfolding rulesOf
+rules-columns [] = refl
+rules-columns (r ∷ rs) = ap (λ (k : List Rule). r ∷ k) (rules-columns rs)
+
 pub rules-care : (c v d : List ℕ) → Lent c v d → map (λ (r : Rule). r .care) (rulesOf c v d) ≡ c
 unfolding rulesOf
 rules-care [] v d l = refl

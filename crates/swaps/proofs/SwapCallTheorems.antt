@@ -13,14 +13,11 @@ use Rattle.rules.specs.Calls.{checkRule}
 use Rattle.swaps.specs.Swaps.{moved, movedRule, inverse}
 use Rattle.swaps.specs.SwapCalls.{ruleNumbers, checkSwapRule, checkSwapHeader, checkSwaps, appliedRule, appliedHeader, undoneHeader, inverted, joined}
 use Rattle.rules.proofs.Tests.{true-and}
-use Rattle.rules.proofs.ReplyLaws.{then-next, then-second}
+use Rattle.rules.proofs.ReplyLaws.{then-next, then-second, one-value}
 use Rattle.rules.proofs.CheckLaws.{valid-rule, width-yes}
 use Rattle.swaps.proofs.MoveLaws.{moved-lt, valid-moved, inverse-good, composed-good}
 use Rattle.swaps.proofs.SwapCallLaws.{Whole, Together, header-whole, rule-whole, swaps-together, together-good, places-yes, header-nine, checks-plain-header, checks-plain-rule}
 use Rattle.swaps.proofs.SwapTheorems.{header-undone, header-redone, rule-undone, header-composed, rule-composed}
-
-one-word : {m n : ℕ} → Gives (m ∷ []) ≡ Gives (n ∷ []) → m ≡ n
-one-word {m} {n} e = cc
 
 pub same-numbers : {q r : Rule} → Gives (ruleNumbers q) ≡ Gives (ruleNumbers r) → q ≡ r
 same-numbers {q} {r} e =
@@ -81,7 +78,7 @@ module _ (size : ℕ) (s : Swap) (u : s .width ≤ size) where
   unfolding appliedHeader
   apply-undo h x e =
       let g = header-whole size s h (checks-plain-header size s h _ _ e) in
-      let q : moved (s .width) (s .places) h ≡ x = one-word (then-second (checkSwapHeader size s h) _ _ e) in
+      let q : moved (s .width) (s .places) h ≡ x = one-value (then-second (checkSwapHeader size s h) _ _ e) in
       ap (undoneHeader size s) (sym q)
       ∙ header-undoes size s (g .0) (moved (s .width) (s .places) h) (moved-lt (s .width) (s .places) h)
       ∙ ap (λ (n : ℕ). Gives (n ∷ [])) (header-undone size (s .width) (s .places) u (g .0 .places) h (g .1))
@@ -92,7 +89,7 @@ module _ (size : ℕ) (s : Swap) (u : s .width ≤ size) where
   undo-apply x h e =
       let g = header-whole size s x (checks-plain-header size s x _ _ e) in
       let back : List ℕ = inverse size (s .width) (s .places) in
-      let q : moved (s .width) back x ≡ h = one-word (then-second (checkSwapHeader size s x) _ _ e) in
+      let q : moved (s .width) back x ≡ h = one-value (then-second (checkSwapHeader size s x) _ _ e) in
       ap (appliedHeader size s) (sym q)
       ∙ header-applies size s (g .0) (moved (s .width) back x) (moved-lt (s .width) back x)
       ∙ ap (λ (n : ℕ). Gives (n ∷ [])) (header-redone size (s .width) (s .places) u (g .0 .places) x (g .1))
@@ -117,7 +114,7 @@ module _ (size : ℕ) (s t : Swap) (u : s .width ≤ size) (c : checkSwaps size 
   compose-apply h x e =
       let g = header-whole size s h (checks-plain-header size s h _ _ e) in
       let w : s .width ≡ t .width = together .widths in
-      let q : moved (s .width) (s .places) h ≡ x = one-word (then-second (checkSwapHeader size s h) _ _ e) in
+      let q : moved (s .width) (s .places) h ≡ x = one-value (then-second (checkSwapHeader size s h) _ _ e) in
       let l : x < 2 ^ (t .width) = subst (λ (k : ℕ). x < 2 ^ k) w (subst (λ (k : ℕ). k < 2 ^ (s .width)) q (moved-lt (s .width) (s .places) h)) in
       header-applies size (joined size s t) (joined-whole size s t u together) h (g .1)
       ∙ ap (λ (n : ℕ). Gives (n ∷ []))

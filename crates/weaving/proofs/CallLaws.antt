@@ -6,7 +6,7 @@ use Prim.Native.Nat.{ℕ, zero, suc, _+_, _-_, _≤_, _<_}
 use native.Mathlib.Omega.{arith}
 use lib.Dec.{eqb, leb}
 use lib.ListN.{length, drop, replicate, length-map}
-use borrow.Author.Tests.{eq-eqb, ne-eqb, le-leb, lt-leb, leb-true}
+use borrow.Author.Tests.{leb-true}
 use Rattle.rules.specs.declared.Rule.{Rule}
 use Rattle.rules.specs.declared.Refusal.{Refusal}
 use Rattle.rules.specs.declared.Verdict.{Verdict}
@@ -14,10 +14,10 @@ use Rattle.rules.specs.Slices.{rulesOf, blank, Lent}
 use Rattle.rules.specs.Replies.{Reply, Gives, Refuses, passed, need, _then_, refusalReply, verdictReply, unlessRefused}
 use Rattle.rules.specs.Checks.{lengthsCheck, roomCheck}
 use Rattle.rules.specs.Calls.{checkList}
-use Rattle.rules.proofs.Tests.{and-true, and-on, and-off, true-and, eqb-yes}
-use Rattle.rules.proofs.ReplyLaws.{then-next, then-refuses, then-assoc, then-second, need-yes, need-no, need-then, need-passed, refused-stop}
+use Rattle.rules.proofs.Tests.{and-true, eqb-yes}
+use Rattle.rules.proofs.ReplyLaws.{then-next, then-refuses, then-assoc, then-second, need-then, need-passed, refused-stop}
 use Rattle.rules.proofs.SliceLaws.{rules-length, rules-care, rules-value, rules-decision}
-use Rattle.rules.proofs.CheckLaws.{Sound, list-sound}
+use Rattle.rules.proofs.CheckLaws.{Sound, list-sound, lengths-values, lengths-decisions, lengths-yes, room-yes, room-no}
 use Rattle.weaving.specs.declared.Counted.{Counted}
 use Rattle.weaving.specs.declared.Tally.{Tally}
 use Rattle.weaving.specs.declared.Woven.{Woven}
@@ -32,16 +32,6 @@ same-refused a x new old e = sym (ap (λ (r : Reply). unlessRefused r new old) e
 
 given : (a : Reply) (ns : List ℕ) (new old : List ℕ) → a ≡ Gives ns → new ≡ unlessRefused a new old
 given a ns new old e = sym (ap (λ (r : Reply). unlessRefused r new old) e)
-
--- ---- 7 and 2
-
-room-yes : (n m : ℕ) → n ≤ m → roomCheck n m ≡ passed
-unfolding roomCheck
-room-yes n m h = need-yes _ 7 0 0 (le-leb n m h)
-
-room-no : (n m : ℕ) → m < n → roomCheck n m ≡ Refuses 7 0 0
-unfolding roomCheck
-room-no n m h = need-no _ 7 0 0 (lt-leb n m h)
 
 -- ---- what a list that passed its checks is
 
@@ -95,22 +85,16 @@ module _ (w : ℕ) (cs vs ds sizes : List ℕ) (v : Verdict) (checked : verdictR
 
 module _ (n : ℕ) (cs vs ds : List ℕ) where
   pub results-two-values : (length cs ≡ length vs → ⊥) → (lengthsCheck cs vs ds then roomCheck n (length cs)) ≡ Refuses 2 0 0
-  unfolding lengthsCheck
-  results-two-values h = then-refuses _ _ (need-no _ 2 0 0 (sym (and-off _ (ne-eqb _ _ h))))
+  results-two-values h = then-refuses _ _ (lengths-values cs vs ds h)
 
   pub results-two-decisions : length cs ≡ length vs → (length cs ≡ length ds → ⊥) → (lengthsCheck cs vs ds then roomCheck n (length cs)) ≡ Refuses 2 0 0
-  unfolding lengthsCheck
-  results-two-decisions e h = then-refuses _ _ (need-no _ 2 0 0 (sym (sym (ne-eqb _ _ h) ∙ and-on (eq-eqb _ _ e))))
-
-  equal : length cs ≡ length vs → length cs ≡ length ds → lengthsCheck cs vs ds ≡ passed
-  unfolding lengthsCheck
-  equal e f = need-yes _ 2 0 0 (true-and (eq-eqb _ _ e) (eq-eqb _ _ f))
+  results-two-decisions e h = then-refuses _ _ (lengths-decisions cs vs ds e h)
 
   pub results-seven : length cs ≡ length vs → length cs ≡ length ds → length cs < n → (lengthsCheck cs vs ds then roomCheck n (length cs)) ≡ Refuses 7 0 0
-  results-seven e f h = then-next _ _ (equal e f) ∙ room-no _ _ h
+  results-seven e f h = then-next _ _ (lengths-yes cs vs ds e f) ∙ room-no _ _ h
 
   pub results-fine : length cs ≡ length vs → length cs ≡ length ds → n ≤ length cs → (lengthsCheck cs vs ds then roomCheck n (length cs)) ≡ passed
-  results-fine e f h = then-next _ _ (equal e f) ∙ room-yes _ _ h
+  results-fine e f h = then-next _ _ (lengths-yes cs vs ds e f) ∙ room-yes _ _ h
 
   -- result slices that passed are equally long and have room
   pub results-room : (lengthsCheck cs vs ds then roomCheck n (length cs)) ≡ passed → Lent cs vs ds × (n ≤ length cs)

@@ -11,6 +11,7 @@ use Rattle.rules.specs.Lists.{All, Pairs}
 use Rattle.rules.proofs.Tests.{split, true-false}
 use Rattle.rules.proofs.RuleLaws.{merged-matches, merged-valid, mergeable-decision, first-hit, first-miss, first-cons}
 use Rattle.weaving.specs.Weave.{Pick, nothing, pick, past, pickIf, partner, Try, stuck, found, mergeHead, mergeOnce, again, mergeAll, mergeChunk, counted, mergesWithin, mergesOf}
+use Rattle.rules.proofs.EntryLaws.{all-any}
 
 -- how many entries match
 abbrev pub one : Bool → ℕ
@@ -297,10 +298,6 @@ hits-unshared (r ∷ rs) f = (
   hits-unshared rs (λ h. omega (arith, f h, hits-cons h r rs)),
 )
   where
-    whole : (P : Rule → Type 0) → ((b : Rule) → P b) → (xs : List Rule) → All P xs
-    whole P g [] = tt
-    whole P g (x ∷ xs) = (g x, whole P g xs)
-
     after : (h : ℕ) (m : matches r h ≡ true) (xs : List Rule) → All (λ (b : Rule). matches b h ≡ true → ⊥) xs → All (λ (b : Rule). matches r h ≡ true → matches b h ≡ true → ⊥) xs
     after h m [] a = tt
     after h m (x ∷ xs) a = ((λ _ n. a .0 n), after h m xs (a .1))
@@ -308,7 +305,7 @@ hits-unshared (r ∷ rs) f = (
     head : (h : ℕ) → All (λ (b : Rule). matches r h ≡ true → matches b h ≡ true → ⊥) rs
     head h =
         split (matches r h) (λ m. after h m rs (hits-one h rs (omega (arith, f h, hits-hit h r rs m))))
-        (λ m. whole _ (λ b t n. true-false t m) rs)
+        (λ m. all-any _ (λ b t n. true-false t m) rs)
 
 -- The lists that merging a chunk goes through: the chunk, and what each merge makes of one of them.
 pub data Reaches (rs : List Rule) : List Rule → Type 0 where

@@ -10,9 +10,9 @@ use lib.ListN.{length, length-append}
 use Rattle.rules.specs.declared.Rule.{Rule}
 use Rattle.rules.specs.Rules.{matches, first, Valid, covers, NoCross, stars}
 use Rattle.rules.specs.Lists.{All, Pairs}
-use Rattle.rules.proofs.Tests.{split, true-false, never-true, eqb-yes, no-eqb}
+use Rattle.rules.proofs.Tests.{split, true-false, never-true, eqb-yes, no-eqb, not-true}
 use Rattle.rules.proofs.RuleLaws.{covers-matches, fewer-stars, first-hit, first-miss, first-cons, first-append}
-use Rattle.rules.proofs.EntryLaws.{all-map, all-zip, pairs-map}
+use Rattle.rules.proofs.EntryLaws.{all-map, all-zip, pairs-map, all-any}
 use Rattle.weaving.specs.Runs.{any, join}
 use Rattle.weaving.specs.Weave.{consIf, uncoveredAfter, uncovered, filter, chunk, chunksFrom, chunks, mergeChunk, mergesOf, sum, weaveRun, mergesIn}
 use Rattle.weaving.proofs.MergeLaws.{hits, hits-hit, hits-miss, first-none, merge-chunk, chunk-shorter}
@@ -91,10 +91,6 @@ unfolding sieved
 sieved-length [] = omega arith
 sieved-length (r ∷ rs) = omega (arith, filter-length (λ (b : Rule). not (covers r b)) (sieved rs), sieved-length rs)
 
-yes-not : (b : Bool) → not b ≡ true → b ≡ false
-yes-not true e = sym e
-yes-not false e = refl
-
 not-no : (b : Bool) → not b ≡ false → b ≡ true
 not-no true e = refl
 not-no false e = sym e
@@ -119,7 +115,7 @@ sieved-free [] p = tt
 sieved-free (r ∷ rs) p = (
   all-zip _ _ (filter (λ (b : Rule). not (covers r b)) (sieved rs))
       (filter-all _ (NoCross r) (sieved rs) (sieved-all (NoCross r) rs (p .0)))
-      (all-map (λ (b : Rule). not (covers r b) ≡ true) (λ (b : Rule). covers r b ≡ false) (λ b e. yes-not (covers r b) e)
+      (all-map (λ (b : Rule). not (covers r b) ≡ true) (λ (b : Rule). covers r b ≡ false) (λ b e. not-true (covers r b) e)
       (filter (λ (b : Rule). not (covers r b)) (sieved rs))
       (filter-kept (λ (b : Rule). not (covers r b)) (sieved rs))),
   filter-pairs _ Free (sieved rs) (sieved-free rs (p .1)),
@@ -345,10 +341,6 @@ module _ (w : ℕ) where
   pub few-stars : (r : Rule) → stars w r < suc w
   unfolding stars
   few-stars r = omega arith
-
-  all-any : (P : Rule → Type 0) → ((r : Rule) → P r) → (rs : List Rule) → All P rs
-  all-any P f [] = tt
-  all-any P f (r ∷ rs) = (f r, all-any P f rs)
 
   pub weave-run : (rs : List Rule) (h d : ℕ) → All (Valid w) rs → Pairs NoCross rs → first (weaveRun w rs) h d ≡ first rs h d
   weave-run rs h d v p =

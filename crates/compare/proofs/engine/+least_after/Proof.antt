@@ -3,8 +3,7 @@ use mathlib.Core.Path.{_≡_, refl}
 use native.Mathlib.Omega.{arith}
 use borrow.Author.Needs.{needs}
 use lib.Pow.{pow-pos}
-use Rattle.compare.proofs.EngineMembers.{none-member}
-use Rattle.compare.proofs.EngineHalves.{power}
+use Rattle.compare.proofs.EngineMembers.{power, none-member}
 use Rattle.compare.proofs.EngineBlocks.{not-one, whole-block, after-whole, after-found, after-one, high-block, after-high, bit-one, bit-zero}
 use borrow.Fn.Kinds.{In}
 use borrow.Fn.PlainCycle.{Measures, is, falls, and}
