@@ -11,6 +11,10 @@ use lib.Seq.{drop-cons, set-at, getD-append-seam}
 use Rattle.rules.specs.declared.Rule.{Rule}
 use Rattle.rules.specs.Rules.{choose}
 use Rattle.rules.specs.Words.{placeBit}
+use Rattle.rules.specs.Replies.{Reply, Refuses, passed, _then_, unlessRefused}
+use Rattle.rules.specs.Checks.{widthCheck, roomCheck}
+use Rattle.rules.proofs.ReplyLaws.{then-next, then-refuses}
+use Rattle.rules.proofs.CheckLaws.{width-yes, width-no, room-yes, room-no}
 use Rattle.rules.proofs.Tests.{split, eqb-yes, no-eqb, and-on, and-off, true-and}
 use borrow.Author.Tests.{lt-leb, le-leb, eq-eqb, ne-eqb}
 use Rattle.text.specs.Patterns.{glyphAt, placesText, patternText, taken, Printed}
@@ -57,19 +61,33 @@ no-room : (w : ℕ) (r : Rule) (old : List ℕ) → taken (length old) w ≡ 0 �
 unfolding placesText
 no-room w r old e = record { size = sym e; text = sym (ap (λ (n : ℕ). patternText n r ++ drop n old) e) }
 
-pub over-wide : (w : ℕ) (r : Rule) (old : List ℕ) → 64 < w → Printed w r old 0 old
+-- what is taken, by the two checks
+taken-by : (room w : ℕ) (reply : Reply) → (widthCheck w then roomCheck w room) ≡ reply → taken room w ≡ unlessRefused reply w 0
 unfolding taken
-over-wide w r old h = no-room w r old (ap (λ (t : Bool). choose t w 0) (sym (and-off _ (lt-leb w 64 h))))
+taken-by room w reply e = ap (λ (k : Reply). unlessRefused k w 0) e
+
+wide-enough : (w : ℕ) → 1 ≤ w → w ≤ 64 → widthCheck w ≡ passed
+wide-enough w l g = width-yes w (true-and (le-leb 1 w l) (le-leb w 64 g))
+
+pub over-wide : (w : ℕ) (r : Rule) (old : List ℕ) → 64 < w → Printed w r old 0 old
+over-wide w r old h =
+    let e : widthCheck w ≡ Refuses 1 0 0 = width-no w (sym (sym (lt-leb w 64 h) ∙ and-on (le-leb 1 w (omega arith)))) in
+    no-room w r old (taken-by (length old) w (Refuses 1 0 0) (then-refuses _ _ e))
 
 pub too-short : (w : ℕ) (r : Rule) (old : List ℕ) → w ≤ 64 → length old < w → Printed w r old 0 old
-unfolding taken
-too-short w r old g h = no-room w r old (ap (λ (t : Bool). choose t w 0) (sym (sym (lt-leb w (length old) h) ∙ and-on (le-leb w 64 g))))
+too-short w r old g h =
+    no-room w r old (taken-by (length old) w (Refuses 7 0 0) (then-next _ _ (wide-enough w (omega arith) g) ∙ room-no w (length old) h))
+
+-- a width of 0 takes nothing: refused or not, 0 bytes
+taken-all : (room w : ℕ) → w ≤ 64 → w ≤ room → taken room w ≡ w
+unfolding taken widthCheck
+taken-all room zero g h = refl
+taken-all room (suc w) g h = taken-by room (suc w) passed (then-next _ _ (wide-enough (suc w) (omega arith) g) ∙ room-yes (suc w) room h)
 
 pub all-places : (w k : ℕ) (r : Rule) (old new : List ℕ) → w ≤ 64 → w ≤ length old → k ≤ w → w ≤ k → new ≡ placesText w r k ++ drop k old
     → Printed w r old w new
-unfolding taken
 all-places w k r old new g h p q e =
-    let s : taken (length old) w ≡ w = ap (λ (t : Bool). choose t w 0) (true-and (le-leb w 64 g) (le-leb w (length old) h)) in
+    let s : taken (length old) w ≡ w = taken-all (length old) w g h in
     let l : k ≡ w = omega arith in
     record {
       size = sym s;

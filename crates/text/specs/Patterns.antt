@@ -2,12 +2,13 @@
 use Prim.Native.Nat.{ℕ, zero, suc, _+_}
 use mathlib.Core.List.{List, [], _∷_, _++_}
 use mathlib.Core.Path.{_≡_}
-use mathlib.Core.Bool.{_&&_}
-use lib.Dec.{eqb, leb}
+use lib.Dec.{eqb}
 use lib.ListN.{length, drop}
 use Rattle.rules.specs.declared.Rule.{Rule}
 use Rattle.rules.specs.Rules.{choose}
 use Rattle.rules.specs.Words.{placeBit}
+use Rattle.rules.specs.Replies.{_then_, unlessRefused}
+use Rattle.rules.specs.Checks.{widthCheck, roomCheck}
 
 -- What stands for place p of w: `*` where the rule does not care, else `0` or `1` as its value says.
 unfoldable pub glyphAt : (w : ℕ) → Rule → ℕ → ℕ
@@ -22,9 +23,9 @@ placesText w r (suc k) = placesText w r k ++ (glyphAt w r (suc k) ∷ [])
 abbrev pub patternText : ℕ → Rule → List ℕ
 patternText w r = placesText w r w
 
--- How many bytes a pattern takes where there is room for `room`: the width, or 0 where the width is over 64 or over the room.
+-- How many bytes a pattern takes where there is room for `room`: the width, or 0 where refusal 1 or 7 would be given for it.
 unfoldable pub taken : (room w : ℕ) → ℕ
-taken room w = choose (leb w 64 && leb w room) w 0
+taken room w = unlessRefused (widthCheck w then roomCheck w room) w 0
 
 -- What a slice that held `old` holds once the pattern was put at its start, and how many bytes that took.
 pub record Printed (w : ℕ) (r : Rule) (old : List ℕ) (count : ℕ) (new : List ℕ) : Type 0 where
