@@ -105,8 +105,21 @@ fn compare_images(old: &[u8], new: &[u8], named: bool, id: u64, start: u64) {
             );
             lines::named(b"more ", h.0);
         }
-        Ending::Refused(x) => lines::refusal(x),
+        Ending::Refused(x) => refusal_by_id(x, old, id),
     }
+}
+
+// A refusal of a comparison: where a list is not there, which and in which image.
+fn refusal_by_id(x: Refusal, old: &[u8], id: u64) {
+    if x.number != 15 {
+        lines::refusal(x);
+        return;
+    }
+    if lists::has(old, id) {
+        lines::no_list(id, b" in the new image");
+        return;
+    }
+    lines::no_list(id, b" in the old image");
 }
 
 // An id above 65,535 is that of no list.

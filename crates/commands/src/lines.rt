@@ -22,6 +22,23 @@ pub fn refusal(x: Refusal) {
     say(b"\n");
 }
 
+// Refusal 15: no list has the id that was asked for, and of two images in which.
+pub fn no_list(id: u64, place: &[u8]) {
+    say(b"refused 15: no list ");
+    number(id);
+    say(place);
+    say(b"\n");
+}
+
+// A refusal of a question about the list with that id.
+pub fn refusal_of(x: Refusal, id: u64) {
+    if x.number == 15 {
+        no_list(id, b"");
+        return;
+    }
+    refusal(x);
+}
+
 // A name and a number to a line.
 pub fn named(name: &[u8], n: u64) {
     say(name);

@@ -20,6 +20,17 @@ pub fn width_of(image: &[u8]) -> u32 {
     0
 }
 
+// Whether an image that was accepted has a list with that id.
+pub fn has(image: &[u8], id: u64) -> bool {
+    if id <= 65535 {
+        let v = image::body_refusal(image, id as u16);
+        if let Verdict::Fine = v {
+            return true;
+        }
+    }
+    false
+}
+
 // Reads a list out. An id above 65,535 is that of no list: the image's own refusals, then 15.
 pub fn read_list(
     image: &[u8],

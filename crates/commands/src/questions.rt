@@ -48,7 +48,7 @@ fn lookup_in(image: &[u8], id: u64, header: u64) {
             slices::halves(decision, n),
             Wire(header),
         )),
-        Outcome::Refused(x) => lines::refusal(x),
+        Outcome::Refused(x) => lines::refusal_of(x, id),
     }
 }
 
@@ -89,7 +89,7 @@ fn runs_in(image: &[u8], id: u64) {
             slices::words(value, n),
             slices::halves(decision, n),
         ),
-        Outcome::Refused(x) => lines::refusal(x),
+        Outcome::Refused(x) => lines::refusal_of(x, id),
     }
 }
 
