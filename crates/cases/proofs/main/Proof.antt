@@ -12,43 +12,33 @@ Inv-loop buffer₀ left₀ buffer left = left ≤ 1000000
 abbrev μ-loop : tie.MeasureT-loop
 μ-loop buffer₀ left₀ buffer left = left
 
--- src/main.rt:77:9
 slice-aggregate-buffer : tie.Need-slice-aggregate-buffer Inv-loop μ-loop
 slice-aggregate-buffer c = search needs
 
--- src/main.rt:79:5
 loop-holds : tie.Need-loop-holds Inv-loop μ-loop
 loop-holds c = search needs
 
--- src/main.rt:80:9
 sub-left : tie.Need-sub-left Inv-loop μ-loop
 sub-left c = search needs
 
--- src/main.rt:81:18
 sub-next : tie.Need-sub-next Inv-loop μ-loop
 sub-next c = search needs
 
--- src/main.rt:81:13
 next-requires : tie.Need-next-requires Inv-loop μ-loop
 next-requires c κs = search needs
 
--- src/main.rt:79:5
 loop-less : tie.Need-loop-less Inv-loop μ-loop
 loop-less c = search needs
 
--- src/main.rt:79:5
 loop-again : tie.Need-loop-again Inv-loop μ-loop
 loop-again c = search needs
 
--- src/main.rt:79:5
 loop-less-2 : tie.Need-loop-less-2 Inv-loop μ-loop
 loop-less-2 c = search needs
 
--- src/main.rt:79:5
 loop-again-2 : tie.Need-loop-again-2 Inv-loop μ-loop
 loop-again-2 c = search needs
 
--- src/main.rt:75:1
 returns : tie.Need-returns Inv-loop μ-loop
 returns c = search needs
 

@@ -13,35 +13,27 @@ Inv-loop count left₀ left = left ≤ count
 abbrev μ-loop : tie.MeasureT-loop
 μ-loop count left₀ left = left
 
--- src/main.rt:86:9
 arg-count-requires : tie.Need-arg-count-requires Inv-loop μ-loop
 arg-count-requires c κs = search needs
 
--- src/main.rt:88:5
 loop-holds : tie.Need-loop-holds Inv-loop μ-loop
 loop-holds c = search needs
 
--- src/main.rt:89:15
 sub-visit : tie.Need-sub-visit Inv-loop μ-loop
 sub-visit c = search needs
 
--- src/main.rt:89:9
 visit-requires : tie.Need-visit-requires Inv-loop μ-loop
 visit-requires c κs = search needs
 
--- src/main.rt:90:9
 sub-left : tie.Need-sub-left Inv-loop μ-loop
 sub-left c = search needs
 
--- src/main.rt:88:5
 loop-less : tie.Need-loop-less Inv-loop μ-loop
 loop-less c = search needs
 
--- src/main.rt:88:5
 loop-again : tie.Need-loop-again Inv-loop μ-loop
 loop-again c = search needs
 
--- src/main.rt:85:1
 returns : tie.Need-returns Inv-loop μ-loop
 returns c = search needs
 

@@ -15,47 +15,36 @@ Inv-loop s at care value decision left₀ from₀ left from = Unit {0}
 abbrev μ-loop : tie.MeasureT-loop
 μ-loop s at care value decision left₀ from₀ left from = left
 
--- src/rules_calls.rt:38:9
 count-requires : tie.Need-count-requires Inv-loop μ-loop
 count-requires c κs = search needs
 
--- src/rules_calls.rt:39:9
 skip-requires : tie.Need-skip-requires Inv-loop μ-loop
 skip-requires c κs = search needs
 
--- src/rules_calls.rt:40:5
 loop-holds : tie.Need-loop-holds Inv-loop μ-loop
 loop-holds c = search needs
 
--- src/rules_calls.rt:41:58
 word-requires : tie.Need-word-requires Inv-loop μ-loop
 word-requires c κs = search needs
 
--- src/rules_calls.rt:41:20
 rule-at-requires : tie.Need-rule-at-requires Inv-loop μ-loop
 rule-at-requires c κs = search needs
 
--- src/rules_calls.rt:41:9
 rule-requires : tie.Need-rule-requires Inv-loop μ-loop
 rule-requires c κs = search needs
 
--- src/rules_calls.rt:42:9
 skip-requires-2 : tie.Need-skip-requires-2 Inv-loop μ-loop
 skip-requires-2 c κs = search needs
 
--- src/rules_calls.rt:43:9
 sub-left : tie.Need-sub-left Inv-loop μ-loop
 sub-left c = search needs
 
--- src/rules_calls.rt:40:5
 loop-less : tie.Need-loop-less Inv-loop μ-loop
 loop-less c = search needs
 
--- src/rules_calls.rt:40:5
 loop-again : tie.Need-loop-again Inv-loop μ-loop
 loop-again c = search needs
 
--- src/rules_calls.rt:37:1
 returns : tie.Need-returns Inv-loop μ-loop
 returns c = search needs
 

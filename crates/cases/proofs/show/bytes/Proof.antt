@@ -17,47 +17,36 @@ Inv-loop s sum₀ left₀ sum left = left ≤ length s
 abbrev μ-loop : tie.MeasureT-loop
 μ-loop s sum₀ left₀ sum left = left
 
--- src/show.rt:97:5
 open-requires : tie.Need-open-requires Inv-loop μ-loop
 open-requires c κs = search needs
 
--- src/show.rt:100:5
 loop-holds : tie.Need-loop-holds Inv-loop μ-loop
 loop-holds c = search needs
 
--- src/show.rt:101:21
 is-short-requires : tie.Need-is-short-requires Inv-loop μ-loop
 is-short-requires c κs = search needs
 
--- src/show.rt:101:56
 sub-byte-at : tie.Need-sub-byte-at Inv-loop μ-loop
 sub-byte-at c = search needs
 
--- src/show.rt:101:45
 byte-at-requires : tie.Need-byte-at-requires Inv-loop μ-loop
 byte-at-requires c κs = search needs
 
--- src/show.rt:101:9
 shown-requires : tie.Need-shown-requires Inv-loop μ-loop
 shown-requires c κs = search needs
 
--- src/show.rt:102:9
 sub-left : tie.Need-sub-left Inv-loop μ-loop
 sub-left c = search needs
 
--- src/show.rt:100:5
 loop-less : tie.Need-loop-less Inv-loop μ-loop
 loop-less c = search needs
 
--- src/show.rt:100:5
 loop-again : tie.Need-loop-again Inv-loop μ-loop
 loop-again c = search needs
 
--- src/show.rt:104:5
 close-requires : tie.Need-close-requires Inv-loop μ-loop
 close-requires c κs = search needs
 
--- src/show.rt:96:1
 returns : tie.Need-returns Inv-loop μ-loop
 returns c = search needs
 

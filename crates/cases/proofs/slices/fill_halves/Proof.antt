@@ -14,35 +14,27 @@ Inv-loop s from out₀ left₀ out left = length out ≡ length out₀
 abbrev μ-loop : tie.MeasureT-loop
 μ-loop s from out₀ left₀ out left = left
 
--- src/slices.rt:77:5
 loop-holds : tie.Need-loop-holds Inv-loop μ-loop
 loop-holds c = search needs
 
--- src/slices.rt:78:9
 sub-left : tie.Need-sub-left Inv-loop μ-loop
 sub-left c = search needs
 
--- src/slices.rt:79:29
 half-in-requires : tie.Need-half-in-requires Inv-loop μ-loop
 half-in-requires c κs = search needs
 
--- src/slices.rt:79:9
 put-half-requires : tie.Need-put-half-requires Inv-loop μ-loop
 put-half-requires c κs = search needs
 
--- src/slices.rt:77:5
 loop-less : tie.Need-loop-less Inv-loop μ-loop
 loop-less c = search needs
 
--- src/slices.rt:77:5
 loop-again : tie.Need-loop-again Inv-loop μ-loop
 loop-again c = c .before .before .put-half .kept .0 ∙ c .before .before .before .before .before .before .loop .inv
 
--- src/slices.rt:75:1
 same-length : tie.Need-same-length Inv-loop μ-loop
 same-length c = c .before .loop .inv
 
--- src/slices.rt:75:1
 returns : tie.Need-returns Inv-loop μ-loop
 returns c = search needs
 

@@ -14,35 +14,27 @@ Inv-loop s from out₀ left₀ out left = length out ≡ length out₀
 abbrev μ-loop : tie.MeasureT-loop
 μ-loop s from out₀ left₀ out left = left
 
--- src/slices.rt:69:5
 loop-holds : tie.Need-loop-holds Inv-loop μ-loop
 loop-holds c = search needs
 
--- src/slices.rt:70:9
 sub-left : tie.Need-sub-left Inv-loop μ-loop
 sub-left c = search needs
 
--- src/slices.rt:71:29
 word-in-requires : tie.Need-word-in-requires Inv-loop μ-loop
 word-in-requires c κs = search needs
 
--- src/slices.rt:71:9
 put-word-requires : tie.Need-put-word-requires Inv-loop μ-loop
 put-word-requires c κs = search needs
 
--- src/slices.rt:69:5
 loop-less : tie.Need-loop-less Inv-loop μ-loop
 loop-less c = search needs
 
--- src/slices.rt:69:5
 loop-again : tie.Need-loop-again Inv-loop μ-loop
 loop-again c = c .before .before .put-word .kept .0 ∙ c .before .before .before .before .before .before .loop .inv
 
--- src/slices.rt:67:1
 same-length : tie.Need-same-length Inv-loop μ-loop
 same-length c = c .before .loop .inv
 
--- src/slices.rt:67:1
 returns : tie.Need-returns Inv-loop μ-loop
 returns c = search needs
 

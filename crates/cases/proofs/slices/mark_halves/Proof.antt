@@ -14,35 +14,27 @@ Inv-loop out₀ left₀ out left = length out ≡ length out₀
 abbrev μ-loop : tie.MeasureT-loop
 μ-loop out₀ left₀ out left = left
 
--- src/slices.rt:100:5
 loop-holds : tie.Need-loop-holds Inv-loop μ-loop
 loop-holds c = search needs
 
--- src/slices.rt:101:9
 sub-left : tie.Need-sub-left Inv-loop μ-loop
 sub-left c = search needs
 
--- src/slices.rt:102:29
 mark-requires : tie.Need-mark-requires Inv-loop μ-loop
 mark-requires c κs = search needs
 
--- src/slices.rt:102:9
 put-half-requires : tie.Need-put-half-requires Inv-loop μ-loop
 put-half-requires c κs = search needs
 
--- src/slices.rt:100:5
 loop-less : tie.Need-loop-less Inv-loop μ-loop
 loop-less c = search needs
 
--- src/slices.rt:100:5
 loop-again : tie.Need-loop-again Inv-loop μ-loop
 loop-again c = c .before .before .put-half .kept .0 ∙ c .before .before .before .before .before .before .loop .inv
 
--- src/slices.rt:98:1
 same-length : tie.Need-same-length Inv-loop μ-loop
 same-length c = c .before .loop .inv
 
--- src/slices.rt:98:1
 returns : tie.Need-returns Inv-loop μ-loop
 returns c = search needs
 

@@ -6,19 +6,15 @@ use Rattle.cases.proofs.slices.words.Tie as tie
 use Rattle.cases.proofs.slices.words.Reads as reads
 use Rattle.cases.proofs.slices.words.Lts as lts
 
--- src/slices.rt:8:23
 slice-aggregate-result : tie.Need-slice-aggregate-result
 slice-aggregate-result c = sym (length-take-le _ _ (c .before .if1 .taken))
 
--- src/slices.rt:8:40
 slice-aggregate-result-2 : tie.Need-slice-aggregate-result-2
 slice-aggregate-result-2 c = search needs
 
--- src/slices.rt:7:1
 returns : tie.Need-returns
 returns c = search needs
 
--- src/slices.rt:7:1
 returns-2 : tie.Need-returns-2
 returns-2 c = search needs
 

@@ -13,35 +13,27 @@ Inv-loop places₀ left₀ places left = (left ≤ 64) × (length places ≡ 64)
 abbrev μ-loop : tie.MeasureT-loop
 μ-loop places₀ left₀ places left = left
 
--- src/swaps_calls.rt:32:5
 loop-holds : tie.Need-loop-holds Inv-loop μ-loop
 loop-holds c = search needs
 
--- src/swaps_calls.rt:33:28
 cast-places : tie.Need-cast-places Inv-loop μ-loop
 cast-places c = search needs
 
--- src/swaps_calls.rt:33:16
 sub-places : tie.Need-sub-places Inv-loop μ-loop
 sub-places c = search needs
 
--- src/swaps_calls.rt:33:9
 array-write-places : tie.Need-array-write-places Inv-loop μ-loop
 array-write-places c = search needs
 
--- src/swaps_calls.rt:34:9
 sub-left : tie.Need-sub-left Inv-loop μ-loop
 sub-left c = search needs
 
--- src/swaps_calls.rt:32:5
 loop-less : tie.Need-loop-less Inv-loop μ-loop
 loop-less c = search needs
 
--- src/swaps_calls.rt:32:5
 loop-again : tie.Need-loop-again Inv-loop μ-loop
 loop-again c = (search needs, simp length-set (search needs))
 
--- src/swaps_calls.rt:29:1
 returns : tie.Need-returns Inv-loop μ-loop
 returns c = search needs
 

@@ -16,43 +16,33 @@ Inv-loop s at width places₀ left₀ places left = (left ≤ 64) × (length pla
 abbrev μ-loop : tie.MeasureT-loop
 μ-loop s at width places₀ left₀ places left = left
 
--- src/swaps_calls.rt:18:9
 single-requires : tie.Need-single-requires Inv-loop μ-loop
 single-requires c κs = search needs
 
--- src/swaps_calls.rt:21:5
 loop-holds : tie.Need-loop-holds Inv-loop μ-loop
 loop-holds c = search needs
 
--- src/swaps_calls.rt:22:9
 sub-left : tie.Need-sub-left Inv-loop μ-loop
 sub-left c = search needs
 
--- src/swaps_calls.rt:23:37
 skip-requires : tie.Need-skip-requires Inv-loop μ-loop
 skip-requires c κs = search needs
 
--- src/swaps_calls.rt:23:32
 skip-requires-2 : tie.Need-skip-requires-2 Inv-loop μ-loop
 skip-requires-2 c κs = search needs
 
--- src/swaps_calls.rt:23:24
 byte-requires : tie.Need-byte-requires Inv-loop μ-loop
 byte-requires c κs = search needs
 
--- src/swaps_calls.rt:23:9
 array-write-places : tie.Need-array-write-places Inv-loop μ-loop
 array-write-places c = search needs
 
--- src/swaps_calls.rt:21:5
 loop-less : tie.Need-loop-less Inv-loop μ-loop
 loop-less c = search needs
 
--- src/swaps_calls.rt:21:5
 loop-again : tie.Need-loop-again Inv-loop μ-loop
 loop-again c = (search needs, simp length-set (search needs))
 
--- src/swaps_calls.rt:17:1
 returns : tie.Need-returns Inv-loop μ-loop
 returns c = search needs
 

@@ -10,16 +10,13 @@ use Rattle.commands.proofs.words.is.Reads as reads
 use Rattle.commands.proofs.words.is.Lts as lts
 use Rattle.check.proofs.same.Reads as same-reads
 
--- src/words.rt:11:9
 same-requires : tie.Need-same-requires
 same-requires c κs = search needs
 
--- src/words.rt:11:9
 returns : tie.Need-returns
 unfolding asks
 returns c = same-decided _ _ _ (c .same .ensures .0) (c .same .ensures .1) ∙ and-on (eq-eqb _ _ (c .before .if1 .taken))
 
--- src/words.rt:7:1
 returns-2 : tie.Need-returns-2
 unfolding asks
 returns-2 c = and-off _ (ne-eqb _ _ (c .if1 .left))

@@ -16,31 +16,24 @@ Inv-loop care value decision miss header i₀ i = (i ≤ length care) × Past (r
 abbrev μ-loop : tie.MeasureT-loop
 μ-loop care value decision miss header i₀ i = length care - i
 
--- src/answers.rt:19:5
 loop-holds : tie.Need-loop-holds Inv-loop μ-loop
 loop-holds c = (omega arith, past-none _ _ _)
 
--- src/answers.rt:20:13
 rule-at-requires : tie.Need-rule-at-requires Inv-loop μ-loop
 rule-at-requires c κs = search needs
 
--- src/answers.rt:22:13
 returns : tie.Need-returns Inv-loop μ-loop
 returns c = past-hit _ _ _ _ _ _ (search needs) (c .before .before .before .before .before .loop .inv .1) _ (c .before .before .before .before .loop-test .taken) (c .before .before .before .rule-at .ensures) (c .if1 .taken)
 
--- src/answers.rt:24:9
 add-i : tie.Need-add-i Inv-loop μ-loop
 add-i c = search needs
 
--- src/answers.rt:19:5
 loop-less : tie.Need-loop-less Inv-loop μ-loop
 loop-less c = search needs
 
--- src/answers.rt:19:5
 loop-again : tie.Need-loop-again Inv-loop μ-loop
 loop-again c = (omega arith, past-more _ _ _ _ _ _ (search needs) (c .before .before .before .before .before .loop .inv .1) _ (c .before .before .before .before .loop-test .taken) (c .before .before .before .rule-at .ensures) (c .if1 .left))
 
--- src/answers.rt:8:1
 returns-2 : tie.Need-returns-2 Inv-loop μ-loop
 returns-2 c = past-all _ _ _ _ _ _ (search needs) (c .before .loop .inv .1) (c .loop-test .left)
 

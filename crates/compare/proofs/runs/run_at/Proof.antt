@@ -9,27 +9,21 @@ use Rattle.compare.proofs.answers.answer_at.Reads as answer-at-reads
 use Rattle.compare.proofs.runs.run_last.Reads as run-last-reads
 use Rattle.compare.proofs.runs.smaller.Reads as smaller-reads
 
--- src/runs.rt:92:9
 answer-at-requires : tie.Need-answer-at-requires
 answer-at-requires c κs = search needs
 
--- src/runs.rt:93:9
 answer-at-requires-2 : tie.Need-answer-at-requires-2
 answer-at-requires-2 c κs = search needs
 
--- src/runs.rt:94:9
 run-last-requires : tie.Need-run-last-requires
 run-last-requires c κs = search needs
 
--- src/runs.rt:95:9
 run-last-requires-2 : tie.Need-run-last-requires-2
 run-last-requires-2 c κs = search needs
 
--- src/runs.rt:96:9
 smaller-requires : tie.Need-smaller-requires
 smaller-requires c κs = search needs
 
--- src/runs.rt:74:1
 returns : tie.Need-returns
 returns c =
     let Y = c .before .before .run-last .ensures in

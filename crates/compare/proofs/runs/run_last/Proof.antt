@@ -9,43 +9,33 @@ use Rattle.compare.proofs.runs.run_last.Lts as lts
 use Rattle.compare.proofs.engine.least_from.Reads as least-from-reads
 use Rattle.compare.proofs.engine.ones.Reads as ones-reads
 
--- src/runs.rt:52:9
 slice-aggregate-least-from : tie.Need-slice-aggregate-least-from
 slice-aggregate-least-from c = search needs
 
--- src/runs.rt:53:9
 slice-aggregate-least-from-2 : tie.Need-slice-aggregate-least-from-2
 slice-aggregate-least-from-2 c = search needs
 
--- src/runs.rt:54:9
 slice-aggregate-least-from-3 : tie.Need-slice-aggregate-least-from-3
 slice-aggregate-least-from-3 c = search needs
 
--- src/runs.rt:46:9
 least-from-requires : tie.Need-least-from-requires
 least-from-requires c κs = let s = c .before .before .before .before .before .before in (s .pre .0, (nothing-listed _ (s .pre .0 .most), s .pre .1 .0))
 
--- src/runs.rt:59:19
 enum-known-found : tie.Need-enum-known-found
 enum-known-found c = search needs
 
--- src/runs.rt:59:25
 sub-result : tie.Need-sub-result
 sub-result c = let s = c .before .before .before .before .before .before .before .before .before .before in omega (arith, later _ _ _ _ (s .pre .1 .0) (s .pre .1 .1) _ (c .before .before .before .least-from .ensures) _ (c .before .found .given .1))
 
--- src/runs.rt:60:27
 enum-told : tie.Need-enum-told
 enum-told c = search needs
 
--- src/runs.rt:60:27
 ones-requires : tie.Need-ones-requires
 ones-requires c κs = c .before .before .before .before .before .before .before .before .before .pre .0 .most
 
--- src/runs.rt:31:1
 returns : tie.Need-returns
 returns c = let s = c .before .before .before .before .before .before .before .before .before .before in lasts-at _ _ _ _ (s .pre .1 .0) (s .pre .1 .1) _ (c .before .before .before .least-from .ensures) _ (c .before .found .given .1)
 
--- src/runs.rt:31:1
 returns-2 : tie.Need-returns-2
 returns-2 c = let s = c .before .before .before .before .before .before .before .before .before .before in lasts-all _ _ _ _ (s .pre .1 .0) (s .pre .1 .1) _ (c .before .before .before .least-from .ensures) (c .before .enum-told .given .1) _ (c .ones .ensures)
 

@@ -23,35 +23,27 @@ Inv-loop b width left₀ from₀ at₀ list₀ left from at list =
 abbrev μ-loop : tie.MeasureT-loop
 μ-loop b width left₀ from₀ at₀ list₀ left from at list = left
 
--- src/checks.rt:153:22
 shared-slice-read-wide : tie.Need-shared-slice-read-wide Inv-loop μ-loop
 shared-slice-read-wide c = search needs
 
--- src/checks.rt:153:17
 wide-requires : tie.Need-wide-requires Inv-loop μ-loop
 wide-requires c κs = search needs
 
--- src/checks.rt:153:17
 cast-width : tie.Need-cast-width Inv-loop μ-loop
 cast-width c = search needs
 
--- src/checks.rt:154:25
 shared-slice-read-wide-2 : tie.Need-shared-slice-read-wide-2 Inv-loop μ-loop
 shared-slice-read-wide-2 c = search needs
 
--- src/checks.rt:154:9
 wide-requires-2 : tie.Need-wide-requires-2 Inv-loop μ-loop
 wide-requires-2 c κs = search needs
 
--- src/checks.rt:155:24
 mul-from : tie.Need-mul-from Inv-loop μ-loop
 mul-from c = search needs
 
--- src/checks.rt:155:20
 add-from : tie.Need-add-from Inv-loop μ-loop
 add-from c = search needs
 
--- src/checks.rt:158:5
 loop-holds : tie.Need-loop-holds Inv-loop μ-loop
 loop-holds c =
     let a = c .before .before .before .before .before in (
@@ -61,15 +53,12 @@ loop-holds c =
       bodies-start (now (a .args .b)) _ _ (c .before .before .wide .ensures .0) (c .wide2 .ensures .0),
     )
 
--- src/checks.rt:159:31
 add-u16-at : tie.Need-add-u16-at Inv-loop μ-loop
 add-u16-at c = search needs
 
--- src/checks.rt:159:13
 u16-at-requires : tie.Need-u16-at-requires Inv-loop μ-loop
 u16-at-requires c κs = search needs
 
--- src/checks.rt:160:13
 rules-at-requires : tie.Need-rules-at-requires Inv-loop μ-loop
 rules-at-requires c κs =
     let o = c .before .before .loop in
@@ -79,42 +68,33 @@ rules-at-requires c κs =
 enum-told : tie.Need-enum-told Inv-loop μ-loop
 enum-told c = search needs
 
--- src/checks.rt:162:13
 enum-told-2 : tie.Need-enum-told-2 Inv-loop μ-loop
 enum-told-2 c = search needs
 
--- src/checks.rt:162:13
 returns : tie.Need-returns Inv-loop μ-loop
 returns c =
     let t = c .before .before in
     let o = t .before .before .before .loop in
     sym (o .inv .3 ∙ lists-stop _ _ (o .left) (o .at) (o .from) _ _ (t .before .u16-at .ensures .0) _ (omega arith) (t .rules-at .ensures) (c .enum-told2 .given .1))
 
--- src/checks.rt:164:17
 mul-from-2 : tie.Need-mul-from-2 Inv-loop μ-loop
 mul-from-2 c = search needs
 
--- src/checks.rt:164:9
 add-from-2 : tie.Need-add-from-2 Inv-loop μ-loop
 add-from-2 c = search needs
 
--- src/checks.rt:165:9
 add-at : tie.Need-add-at Inv-loop μ-loop
 add-at c = search needs
 
--- src/checks.rt:166:9
 add-list : tie.Need-add-list Inv-loop μ-loop
 add-list c = search needs
 
--- src/checks.rt:167:9
 sub-left : tie.Need-sub-left Inv-loop μ-loop
 sub-left c = search needs
 
--- src/checks.rt:158:5
 loop-less : tie.Need-loop-less Inv-loop μ-loop
 loop-less c = search needs
 
--- src/checks.rt:158:5
 loop-again : tie.Need-loop-again Inv-loop μ-loop
 loop-again c =
     let t = c .before .before in
@@ -126,7 +106,6 @@ loop-again c =
       o .inv .3 ∙ lists-pass _ _ (o .left) (o .at) (o .from) _ _ (t .before .u16-at .ensures .0) _ (omega arith) (t .rules-at .ensures) (c .enum-told .given .1),
     )
 
--- src/checks.rt:148:1
 returns-2 : tie.Need-returns-2 Inv-loop μ-loop
 returns-2 c =
     let o = c .before .loop in

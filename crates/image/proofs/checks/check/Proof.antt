@@ -12,22 +12,18 @@ use Rattle.image.proofs.checks.bodies.Reads as bodies-reads
 use Rattle.image.proofs.checks.contents.Reads as contents-reads
 use Rattle.image.proofs.checks.head.Reads as head-reads
 
--- src/checks.rt:176:9
 head-requires : tie.Need-head-requires
 head-requires c κs = search needs
 
 enum-told : tie.Need-enum-told
 enum-told c = search needs
 
--- src/checks.rt:178:9
 enum-told-2 : tie.Need-enum-told-2
 enum-told-2 c = search needs
 
--- src/checks.rt:178:9
 returns : tie.Need-returns
 returns c = image-head _ _ (c .before .before .head .ensures) (c .enum-told2 .given .1)
 
--- src/checks.rt:180:9
 contents-requires : tie.Need-contents-requires
 contents-requires c κs =
     let h = head-facts _ (sym (c .before .before .head .ensures) ∙ ap verdictReply (c .enum-told .given .1)) in
@@ -36,21 +32,17 @@ contents-requires c κs =
 enum-told-3 : tie.Need-enum-told-3
 enum-told-3 c = search needs
 
--- src/checks.rt:182:9
 enum-told-4 : tie.Need-enum-told-4
 enum-told-4 c = search needs
 
--- src/checks.rt:182:9
 returns-2 : tie.Need-returns-2
 returns-2 c = image-contents _ _ _ (c .before .before .before .before .before .head .ensures) (c .before .before .before .enum-told .given .1) (c .before .before .contents .ensures) (c .enum-told4 .given .1)
 
--- src/checks.rt:184:5
 bodies-requires : tie.Need-bodies-requires
 bodies-requires c κs =
     let h = head-facts _ (sym (c .before .before .before .before .before .head .ensures) ∙ ap verdictReply (c .before .before .before .enum-told .given .1)) in
     (h .least, h .most, h .wide, h .narrow, contents-total _ (sym (c .before .before .contents .ensures) ∙ ap verdictReply (c .enum-told3 .given .1)))
 
--- src/checks.rt:173:1
 returns-3 : tie.Need-returns-3
 returns-3 c = image-bodies _ _ _ (c .bodies .result) (c .before .before .before .before .before .before .head .ensures) (c .before .before .before .before .enum-told .given .1) (c .before .before .before .contents .ensures) (c .before .enum-told3 .given .1) (c .bodies .ensures)
 

@@ -24,89 +24,69 @@ Inv-loop b left₀ next₀ at₀ least₀ list₀ left next at least list =
 abbrev μ-loop : tie.MeasureT-loop
 μ-loop b left₀ next₀ at₀ least₀ list₀ left next at least list = left
 
--- src/checks.rt:105:25
 shared-slice-read-wide : tie.Need-shared-slice-read-wide Inv-loop μ-loop
 shared-slice-read-wide c = search needs
 
--- src/checks.rt:105:9
 wide-requires : tie.Need-wide-requires Inv-loop μ-loop
 wide-requires c κs = search needs
 
--- src/checks.rt:106:24
 mul-next : tie.Need-mul-next Inv-loop μ-loop
 mul-next c = search needs
 
--- src/checks.rt:106:20
 add-next : tie.Need-add-next Inv-loop μ-loop
 add-next c = search needs
 
--- src/checks.rt:110:5
 loop-holds : tie.Need-loop-holds Inv-loop μ-loop
 loop-holds c = (omega arith, omega arith, omega arith, contents-start _ _ (c .wide .ensures .0))
 
--- src/checks.rt:111:13
 entry-at-requires : tie.Need-entry-at-requires Inv-loop μ-loop
 entry-at-requires c κs = search needs
 
 enum-told : tie.Need-enum-told Inv-loop μ-loop
 enum-told c = search needs
 
--- src/checks.rt:113:13
 enum-told-2 : tie.Need-enum-told-2 Inv-loop μ-loop
 enum-told-2 c = search needs
 
--- src/checks.rt:113:13
 returns : tie.Need-returns Inv-loop μ-loop
 returns c =
     let t = c .before .before in
     let o = t .before .before .loop in
     sym (o .inv .3 ∙ entries-stop _ _ _ _ (o .left) (o .at) _ _ (omega arith) (t .entry-at .ensures) (c .enum-told2 .given .1))
 
--- src/checks.rt:115:32
 add-u16-at : tie.Need-add-u16-at Inv-loop μ-loop
 add-u16-at c = search needs
 
--- src/checks.rt:115:22
 u16-at-requires : tie.Need-u16-at-requires Inv-loop μ-loop
 u16-at-requires c κs = search needs
 
--- src/checks.rt:115:17
 mul-next-2 : tie.Need-mul-next-2 Inv-loop μ-loop
 mul-next-2 c = search needs
 
--- src/checks.rt:115:9
 add-next-2 : tie.Need-add-next-2 Inv-loop μ-loop
 add-next-2 c = search needs
 
--- src/checks.rt:116:27
 add-u16-at-2 : tie.Need-add-u16-at-2 Inv-loop μ-loop
 add-u16-at-2 c = search needs
 
--- src/checks.rt:116:17
 u16-at-requires-2 : tie.Need-u16-at-requires-2 Inv-loop μ-loop
 u16-at-requires-2 c κs = search needs
 
--- src/checks.rt:116:17
 add-least : tie.Need-add-least Inv-loop μ-loop
 add-least c = search needs
 
--- src/checks.rt:117:9
 add-at : tie.Need-add-at Inv-loop μ-loop
 add-at c = search needs
 
--- src/checks.rt:118:9
 add-list : tie.Need-add-list Inv-loop μ-loop
 add-list c = search needs
 
--- src/checks.rt:119:9
 sub-left : tie.Need-sub-left Inv-loop μ-loop
 sub-left c = search needs
 
--- src/checks.rt:110:5
 loop-less : tie.Need-loop-less Inv-loop μ-loop
 loop-less c = search needs
 
--- src/checks.rt:110:5
 loop-again : tie.Need-loop-again Inv-loop μ-loop
 loop-again c =
     let t = c .before .before .before .before in
@@ -120,17 +100,14 @@ loop-again c =
           (c .before .before .enum-told .given .1) (c .before .u16-at .ensures .0) (c .u16-at2 .ensures .0),
     )
 
--- src/checks.rt:122:9
 refused-requires : tie.Need-refused-requires Inv-loop μ-loop
 refused-requires c κs = search needs
 
--- src/checks.rt:122:9
 returns-2 : tie.Need-returns-2 Inv-loop μ-loop
 returns-2 c =
     let o = c .before .before .before .loop in
     c .refused .ensures ∙ sym (o .inv .3 ∙ entries-bad _ _ _ _ (o .left) (o .at) _ (omega arith) (omega arith))
 
--- src/checks.rt:101:1
 returns-3 : tie.Need-returns-3 Inv-loop μ-loop
 returns-3 c =
     let o = c .before .before .loop in

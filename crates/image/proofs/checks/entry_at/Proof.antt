@@ -12,31 +12,24 @@ use Rattle.image.proofs.checks.entry_verdict.Reads as entry-verdict-rea
 use Rattle.image.proofs.numbers.u16_at.Reads as u16-at-reads
 use Rattle.image.proofs.numbers.u32_at.Reads as u32-at-reads
 
--- src/checks.rt:93:9
 u32-at-requires : tie.Need-u32-at-requires
 u32-at-requires c κs = search needs
 
--- src/checks.rt:94:27
 add-u16-at : tie.Need-add-u16-at
 add-u16-at c = search needs
 
--- src/checks.rt:94:9
 u16-at-requires : tie.Need-u16-at-requires
 u16-at-requires c κs = search needs
 
--- src/checks.rt:95:24
 add-u16-at-2 : tie.Need-add-u16-at-2
 add-u16-at-2 c = search needs
 
--- src/checks.rt:95:9
 u16-at-requires-2 : tie.Need-u16-at-requires-2
 u16-at-requires-2 c κs = search needs
 
--- src/checks.rt:96:5
 entry-verdict-requires : tie.Need-entry-verdict-requires
 entry-verdict-requires c κs = search needs
 
--- src/checks.rt:88:1
 returns : tie.Need-returns
 returns c =
     let a = c .before .before .before .before .before .args in

@@ -9,47 +9,36 @@ use Rattle.image.proofs.checks.entry_verdict.Reads as reads
 use Rattle.image.proofs.checks.entry_verdict.Lts as lts
 use Rattle.image.proofs.checks.refused.Reads as refused-reads
 
--- src/checks.rt:73:9
 refused-requires : tie.Need-refused-requires
 refused-requires c κs = search needs
 
--- src/checks.rt:73:9
 returns : tie.Need-returns
 returns c = c .refused .ensures ∙ entry-1 _ _ _ _ _ (omega arith)
 
--- src/checks.rt:76:9
 refused-requires-2 : tie.Need-refused-requires-2
 refused-requires-2 c κs = search needs
 
--- src/checks.rt:76:9
 returns-2 : tie.Need-returns-2
 returns-2 c = c .refused2 .ensures ∙ entry-2 _ _ _ _ _ (omega arith) (omega arith)
 
--- src/checks.rt:79:9
 refused-requires-3 : tie.Need-refused-requires-3
 refused-requires-3 c κs = search needs
 
--- src/checks.rt:79:9
 returns-3 : tie.Need-returns-3
 returns-3 c = c .refused3 .ensures ∙ entry-3 _ _ _ _ _ (omega arith) (omega arith) (omega arith)
 
--- src/checks.rt:81:15
 mul-if4 : tie.Need-mul-if4
 mul-if4 c = search needs
 
--- src/checks.rt:81:8
 add-if4 : tie.Need-add-if4
 add-if4 c = search needs
 
--- src/checks.rt:82:9
 refused-requires-4 : tie.Need-refused-requires-4
 refused-requires-4 c κs = search needs
 
--- src/checks.rt:82:9
 returns-4 : tie.Need-returns-4
 returns-4 c = c .refused4 .ensures ∙ entry-4 _ _ _ _ _ (omega arith) (omega arith) (omega arith) (omega arith)
 
--- src/checks.rt:60:1
 returns-5 : tie.Need-returns-5
 returns-5 c = entry-fine _ _ _ _ _ (omega arith) (omega arith) (omega arith) (omega arith)
 

@@ -21,26 +21,21 @@ Inv-loop b from count width list left₀ at₀ number₀ left at number =
 abbrev μ-loop : tie.MeasureT-loop
 μ-loop b from count width list left₀ at₀ number₀ left at number = left
 
--- src/checks.rt:135:5
 loop-holds : tie.Need-loop-holds Inv-loop μ-loop
 loop-holds c = (omega arith, omega arith, refl)
 
--- src/checks.rt:136:49
 rule-in-requires : tie.Need-rule-in-requires Inv-loop μ-loop
 rule-in-requires c κs = search needs
 
--- src/checks.rt:136:13
 check-rule-requires : tie.Need-check-rule-requires Inv-loop μ-loop
 check-rule-requires c κs = search needs
 
 enum-told : tie.Need-enum-told Inv-loop μ-loop
 enum-told c = search needs
 
--- src/checks.rt:138:13
 enum-told-2 : tie.Need-enum-told-2 Inv-loop μ-loop
 enum-told-2 c = search needs
 
--- src/checks.rt:138:13
 returns : tie.Need-returns Inv-loop μ-loop
 returns c =
     let t = c .before .before in
@@ -48,23 +43,18 @@ returns c =
     sym (o .inv .2 ∙ rules-stop _ _ (o .number) (o .left) (o .at) _ _ (omega arith)
     (t .check-rule .ensures ∙ in-width _ _ (o .number) _ (omega arith) (omega arith) ∙ ap (ruleCheck _ _ _) (t .before .rule-in .ensures)) (c .enum-told2 .given .1))
 
--- src/checks.rt:140:9
 sub-left : tie.Need-sub-left Inv-loop μ-loop
 sub-left c = search needs
 
--- src/checks.rt:141:9
 add-at : tie.Need-add-at Inv-loop μ-loop
 add-at c = search needs
 
--- src/checks.rt:142:9
 add-number : tie.Need-add-number Inv-loop μ-loop
 add-number c = search needs
 
--- src/checks.rt:135:5
 loop-less : tie.Need-loop-less Inv-loop μ-loop
 loop-less c = search needs
 
--- src/checks.rt:135:5
 loop-again : tie.Need-loop-again Inv-loop μ-loop
 loop-again c =
     let t = c .before .before in
@@ -75,7 +65,6 @@ loop-again c =
           (t .check-rule .ensures ∙ in-width _ _ (o .number) _ (omega arith) (omega arith) ∙ ap (ruleCheck _ _ _) (t .before .rule-in .ensures)) (c .enum-told .given .1),
     )
 
--- src/checks.rt:128:1
 returns-2 : tie.Need-returns-2 Inv-loop μ-loop
 returns-2 c =
     let o = c .before .loop in

@@ -7,55 +7,42 @@ use Rattle.image.proofs.comparing.compare_at.Lts as lts
 use Rattle.image.proofs.comparing.compare_with.Reads as compare-with-reads
 use Rattle.image.proofs.comparing.hold.Reads as hold-reads
 
--- src/comparing.rt:154:5
 hold-requires : tie.Need-hold-requires
 hold-requires c κs = search needs
 
--- src/comparing.rt:157:9
 array-share-prefix-care : tie.Need-array-share-prefix-care
 array-share-prefix-care c = room-cares _ _ _ _ _ (c .hold .ensures)
 
--- src/comparing.rt:157:9
 slice-aggregate-compare-with : tie.Need-slice-aggregate-compare-with
 slice-aggregate-compare-with c = held-cares _ _ _ _ _ (c .before .hold .ensures)
 
--- src/comparing.rt:158:9
 array-share-prefix-value : tie.Need-array-share-prefix-value
 array-share-prefix-value c = room-values _ _ _ _ _ (c .before .hold .ensures)
 
--- src/comparing.rt:158:9
 slice-aggregate-compare-with-2 : tie.Need-slice-aggregate-compare-with-2
 slice-aggregate-compare-with-2 c = held-values _ _ _ _ _ (c .before .before .hold .ensures)
 
--- src/comparing.rt:159:9
 array-share-prefix-decision : tie.Need-array-share-prefix-decision
 array-share-prefix-decision c = room-decisions _ _ _ _ _ (c .before .before .hold .ensures)
 
--- src/comparing.rt:159:9
 slice-aggregate-compare-with-3 : tie.Need-slice-aggregate-compare-with-3
 slice-aggregate-compare-with-3 c = held-decisions _ _ _ _ _ (c .before .before .before .hold .ensures)
 
--- src/comparing.rt:155:5
 compare-with-requires : tie.Need-compare-with-requires
 compare-with-requires c κs = (held-passes _ _ _ _ _ _ _ _ (c .before .before .before .before .before .before .before .before .before .before .before .before .before .before .before .before .before .pre .0) (c .before .before .before .before .before .before .before .hold .ensures), c .before .before .before .before .before .before .before .before .before .before .before .before .before .before .before .before .before .pre .1)
 
--- src/comparing.rt:130:1
 same-length : tie.Need-same-length
 same-length c = search needs
 
--- src/comparing.rt:130:1
 same-length-2 : tie.Need-same-length-2
 same-length-2 c = search needs
 
--- src/comparing.rt:130:1
 same-length-3 : tie.Need-same-length-3
 same-length-3 c = search needs
 
--- src/comparing.rt:130:1
 same-length-4 : tie.Need-same-length-4
 same-length-4 c = search needs
 
--- src/comparing.rt:130:1
 returns : tie.Need-returns
 returns c = at-portion _ _ _ _ _ _ _ _ _ _ _ _ _ _ _ _ _ (c .before .before .before .before .before .before .before .before .before .before .before .before .before .before .before .before .hold .ensures) (c .before .before .before .before .before .before .before .before .compare-with .ensures)
 

@@ -11,47 +11,36 @@ use Rattle.image.proofs.comparing.compare_at.Reads as compare-at-reads
 use Rattle.image.proofs.numbers.wide.Reads as wide-reads
 use Rattle.image.proofs.places.find.Reads as find-reads
 
--- src/comparing.rt:188:22
 shared-slice-read-wide : tie.Need-shared-slice-read-wide
 shared-slice-read-wide c = omega (arith, image-facts _ [] (old-passed _ _ (c .before .before .before .before .before .before .before .pre)) .head .least)
 
--- src/comparing.rt:188:17
 wide-requires : tie.Need-wide-requires
 wide-requires c κs = search needs
 
--- src/comparing.rt:188:17
 cast-width : tie.Need-cast-width
 cast-width c = search needs
 
--- src/comparing.rt:189:9
 find-requires : tie.Need-find-requires
 find-requires c κs = let f = image-facts _ [] (old-passed _ _ (c .before .before .before .before .before .before .before .before .pre)) in (f .head .least, f .head .most, f .sums)
 
--- src/comparing.rt:190:9
 find-requires-2 : tie.Need-find-requires-2
 find-requires-2 c κs = let f = image-facts _ [] (new-passed _ _ (c .before .before .before .before .before .before .before .before .before .pre)) in (f .head .least, f .head .most, f .sums)
 
--- src/comparing.rt:191:5
 compare-at-requires : tie.Need-compare-at-requires
 compare-at-requires c κs = (old-checked _ _ (c .before .before .before .before .before .before .before .before .before .before .before .before .before .before .pre) _ _ _ (c .before .before .before .before .before .before .wide .ensures .0) (c .before .before .before .before .before .find .ensures .0), new-checked _ _ (c .before .before .before .before .before .before .before .before .before .before .before .before .before .before .pre) _ _ _ (c .before .before .before .before .before .before .wide .ensures .0) (c .before .before .before .before .find2 .ensures .0))
 
--- src/comparing.rt:172:1
 same-length : tie.Need-same-length
 same-length c = search needs
 
--- src/comparing.rt:172:1
 same-length-2 : tie.Need-same-length-2
 same-length-2 c = search needs
 
--- src/comparing.rt:172:1
 same-length-3 : tie.Need-same-length-3
 same-length-3 c = search needs
 
--- src/comparing.rt:172:1
 same-length-4 : tie.Need-same-length-4
 same-length-4 c = search needs
 
--- src/comparing.rt:172:1
 returns : tie.Need-returns
 returns c = found-portion _ _ _ _ _ _ _ _ _ _ _ _ _ _ _ _ _ (c .before .before .before .before .before .before .before .before .before .before .before .before .before .before .before .wide .ensures .0) (c .before .before .before .before .before .before .before .before .before .before .before .before .before .before .find .ensures .0) (c .before .before .before .before .before .before .before .before .before .before .before .before .before .find2 .ensures .0) (c .before .before .before .before .before .before .before .before .compare-at .ensures)
 

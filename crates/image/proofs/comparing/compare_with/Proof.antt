@@ -7,55 +7,42 @@ use Rattle.image.proofs.comparing.compare_with.Lts as lts
 use Rattle.compare.proofs.compare.Reads as compare-reads
 use Rattle.image.proofs.comparing.hold.Reads as hold-reads
 
--- src/comparing.rt:112:5
 hold-requires : tie.Need-hold-requires
 hold-requires c κs = search needs
 
--- src/comparing.rt:118:9
 array-share-prefix-care : tie.Need-array-share-prefix-care
 array-share-prefix-care c = room-cares _ _ _ _ _ (c .hold .ensures)
 
--- src/comparing.rt:118:9
 slice-aggregate-compare : tie.Need-slice-aggregate-compare
 slice-aggregate-compare c = held-cares _ _ _ _ _ (c .before .hold .ensures)
 
--- src/comparing.rt:119:9
 array-share-prefix-value : tie.Need-array-share-prefix-value
 array-share-prefix-value c = room-values _ _ _ _ _ (c .before .hold .ensures)
 
--- src/comparing.rt:119:9
 slice-aggregate-compare-2 : tie.Need-slice-aggregate-compare-2
 slice-aggregate-compare-2 c = held-values _ _ _ _ _ (c .before .before .hold .ensures)
 
--- src/comparing.rt:120:9
 array-share-prefix-decision : tie.Need-array-share-prefix-decision
 array-share-prefix-decision c = room-decisions _ _ _ _ _ (c .before .before .hold .ensures)
 
--- src/comparing.rt:120:9
 slice-aggregate-compare-3 : tie.Need-slice-aggregate-compare-3
 slice-aggregate-compare-3 c = held-decisions _ _ _ _ _ (c .before .before .before .hold .ensures)
 
--- src/comparing.rt:113:5
 compare-requires : tie.Need-compare-requires
 compare-requires c κs = search needs
 
--- src/comparing.rt:88:1
 same-length : tie.Need-same-length
 same-length c = search needs
 
--- src/comparing.rt:88:1
 same-length-2 : tie.Need-same-length-2
 same-length-2 c = search needs
 
--- src/comparing.rt:88:1
 same-length-3 : tie.Need-same-length-3
 same-length-3 c = search needs
 
--- src/comparing.rt:88:1
 same-length-4 : tie.Need-same-length-4
 same-length-4 c = search needs
 
--- src/comparing.rt:88:1
 returns : tie.Need-returns
 returns c = with-portion _ _ _ _ _ _ _ _ _ _ _ _ _ _ _ _ _ _ _ _ (c .before .before .before .before .before .before .before .before .before .before .before .before .before .before .before .before .before .before .before .before .before .before .before .before .before .before .before .before .pre .0) (c .before .before .before .before .before .before .before .before .before .before .before .before .before .before .before .before .before .before .before .before .before .before .before .before .before .before .before .before .pre .1) (c .before .before .before .before .before .before .before .before .before .before .before .before .before .before .before .before .hold .ensures) (c .before .before .before .before .before .before .before .before .compare .ensures)
 

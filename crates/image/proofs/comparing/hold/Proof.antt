@@ -7,11 +7,9 @@ use Rattle.image.proofs.comparing.hold.Reads as reads
 use Rattle.image.proofs.comparing.hold.Lts as lts
 use Rattle.image.proofs.reading.fill.Reads as fill-reads
 
--- src/comparing.rt:84:5
 fill-requires : tie.Need-fill-requires
 fill-requires c κs = search needs
 
--- src/comparing.rt:72:1
 returns : tie.Need-returns
 returns c = filled-held _ _ _ _ _ _ _ _ (length-rulesIn _ _) (c .fill .ensures)
 

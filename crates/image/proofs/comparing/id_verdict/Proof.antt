@@ -10,19 +10,15 @@ use Rattle.image.proofs.comparing.id_verdict.Lts as lts
 use Rattle.image.proofs.checks.refused.Reads as refused-reads
 use Rattle.image.proofs.places.find.Reads as find-reads
 
--- src/comparing.rt:49:9
 find-requires : tie.Need-find-requires
 find-requires c κs = let f = image-facts _ [] (c .before .pre) in (f .head .least, f .head .most, f .sums)
 
--- src/comparing.rt:51:9
 returns : tie.Need-returns
 returns c = found-yes _ _ _ (c .before .find .ensures .0) (c .if1 .taken)
 
--- src/comparing.rt:53:5
 refused-requires : tie.Need-refused-requires
 refused-requires c κs = search needs
 
--- src/comparing.rt:45:1
 returns-2 : tie.Need-returns-2
 returns-2 c = c .refused .ensures ∙ found-no _ _ _ (c .before .before .find .ensures .0) (c .before .if1 .left)
 

@@ -9,31 +9,24 @@ use Rattle.image.proofs.numbers.rule_in.Lts as lts
 use Rattle.image.proofs.numbers.u16_at.Reads as u16-at-reads
 use Rattle.image.proofs.numbers.u64_at.Reads as u64-at-reads
 
--- src/numbers.rt:42:16
 u64-at-requires : tie.Need-u64-at-requires
 u64-at-requires c κs = search needs
 
--- src/numbers.rt:43:27
 add-u64-at : tie.Need-add-u64-at
 add-u64-at c = search needs
 
--- src/numbers.rt:43:17
 u64-at-requires-2 : tie.Need-u64-at-requires-2
 u64-at-requires-2 c κs = search needs
 
--- src/numbers.rt:44:30
 add-u16-at : tie.Need-add-u16-at
 add-u16-at c = search needs
 
--- src/numbers.rt:44:20
 u16-at-requires : tie.Need-u16-at-requires
 u16-at-requires c κs = search needs
 
--- src/numbers.rt:44:20
 cast-decision : tie.Need-cast-decision
 cast-decision c = search needs
 
--- src/numbers.rt:38:1
 returns : tie.Need-returns
 returns c = rule-from (c .before .before .before .before .args .at) (now (c .before .before .before .before .args .b)) (c .before .before .u64-at .ensures .0) (c .before .u64-at2 .ensures .0) (c .u16-at .ensures .0)
 

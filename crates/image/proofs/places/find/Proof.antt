@@ -24,49 +24,38 @@ Inv-loop b id left₀ from₀ at₀ left from at =
 abbrev μ-loop : tie.MeasureT-loop
 μ-loop b id left₀ from₀ at₀ left from at = left
 
--- src/places.rt:29:25
 shared-slice-read-wide : tie.Need-shared-slice-read-wide Inv-loop μ-loop
 shared-slice-read-wide c = search needs
 
--- src/places.rt:29:9
 wide-requires : tie.Need-wide-requires Inv-loop μ-loop
 wide-requires c κs = search needs
 
--- src/places.rt:30:24
 mul-from : tie.Need-mul-from Inv-loop μ-loop
 mul-from c = search needs
 
--- src/places.rt:30:20
 add-from : tie.Need-add-from Inv-loop μ-loop
 add-from c = search needs
 
--- src/places.rt:32:5
 loop-holds : tie.Need-loop-holds Inv-loop μ-loop
 loop-holds c =
     let a = c .before .before .before in
     (omega arith, total-start (now (a .args .b)) _ (c .wide .ensures .0) (a .pre .2), place-start (now (a .args .b)) _ _ (c .wide .ensures .0))
 
--- src/places.rt:33:31
 add-u16-at : tie.Need-add-u16-at Inv-loop μ-loop
 add-u16-at c = search needs
 
--- src/places.rt:33:13
 u16-at-requires : tie.Need-u16-at-requires Inv-loop μ-loop
 u16-at-requires c κs = search needs
 
--- src/places.rt:34:22
 add-u16-at-2 : tie.Need-add-u16-at-2 Inv-loop μ-loop
 add-u16-at-2 c = search needs
 
--- src/places.rt:34:12
 u16-at-requires-2 : tie.Need-u16-at-requires-2 Inv-loop μ-loop
 u16-at-requires-2 c κs = search needs
 
--- src/places.rt:35:13
 place-at-requires : tie.Need-place-at-requires Inv-loop μ-loop
 place-at-requires c κs = search needs
 
--- src/places.rt:35:13
 returns : tie.Need-returns Inv-loop μ-loop
 returns c =
     let t = c .before .before in
@@ -75,27 +64,21 @@ returns c =
     place-is (now (a .args .b)) _ _ (a .pre .2) (c .place-at .ensures
     ∙ sym (o .inv .2 ∙ place-here _ (o .left) (o .at) (o .from) _ _ _ (t .before .u16-at .ensures .0) (t .u16-at2 .ensures .0) (omega arith) (c .before .if1 .taken)))
 
--- src/places.rt:37:17
 mul-from-2 : tie.Need-mul-from-2 Inv-loop μ-loop
 mul-from-2 c = search needs
 
--- src/places.rt:37:9
 add-from-2 : tie.Need-add-from-2 Inv-loop μ-loop
 add-from-2 c = search needs
 
--- src/places.rt:38:9
 add-at : tie.Need-add-at Inv-loop μ-loop
 add-at c = search needs
 
--- src/places.rt:39:9
 sub-left : tie.Need-sub-left Inv-loop μ-loop
 sub-left c = search needs
 
--- src/places.rt:32:5
 loop-less : tie.Need-loop-less Inv-loop μ-loop
 loop-less c = search needs
 
--- src/places.rt:32:5
 loop-again : tie.Need-loop-again Inv-loop μ-loop
 loop-again c =
     let t = c .before in
@@ -106,11 +89,9 @@ loop-again c =
       o .inv .2 ∙ place-on _ (o .left) (o .at) (o .from) _ _ b (t .before .u16-at .ensures .0) (t .u16-at2 .ensures .0) (omega arith) (c .if1 .left),
     )
 
--- src/places.rt:41:5
 place-at-requires-2 : tie.Need-place-at-requires-2 Inv-loop μ-loop
 place-at-requires-2 c κs = search needs
 
--- src/places.rt:24:1
 returns-2 : tie.Need-returns-2 Inv-loop μ-loop
 returns-2 c =
     let o = c .before .before .loop in

@@ -25,67 +25,51 @@ Inv-loop out₀ ids counts i₀ at₀ next₀ out i at next =
 abbrev μ-loop : tie.MeasureT-loop
 μ-loop out₀ ids counts i₀ at₀ next₀ out i at next = length ids - i
 
--- src/puts.rt:78:24
 mul-next : tie.Need-mul-next Inv-loop μ-loop
 mul-next c = search needs
 
--- src/puts.rt:78:20
 add-next : tie.Need-add-next Inv-loop μ-loop
 add-next c = search needs
 
--- src/puts.rt:79:5
 loop-holds : tie.Need-loop-holds Inv-loop μ-loop
 loop-holds c = (refl, omega arith, refl, omega arith, refl)
 
--- src/puts.rt:80:28
 mul-wide16 : tie.Need-mul-wide16 Inv-loop μ-loop
 mul-wide16 c = search needs
 
--- src/puts.rt:80:28
 shared-slice-read-wide16 : tie.Need-shared-slice-read-wide16 Inv-loop μ-loop
 shared-slice-read-wide16 c = search needs
 
--- src/puts.rt:80:13
 wide16-requires : tie.Need-wide16-requires Inv-loop μ-loop
 wide16-requires c κs = search needs
 
--- src/puts.rt:81:48
 mul-wide16-2 : tie.Need-mul-wide16-2 Inv-loop μ-loop
 mul-wide16-2 c = search needs
 
--- src/puts.rt:81:48
 shared-slice-read-wide16-2 : tie.Need-shared-slice-read-wide16-2 Inv-loop μ-loop
 shared-slice-read-wide16-2 c = search needs
 
--- src/puts.rt:81:41
 wide16-requires-2 : tie.Need-wide16-requires-2 Inv-loop μ-loop
 wide16-requires-2 c κs = search needs
 
--- src/puts.rt:81:9
 put-entry-requires : tie.Need-put-entry-requires Inv-loop μ-loop
 put-entry-requires c κs = search needs
 
--- src/puts.rt:82:17
 mul-next-2 : tie.Need-mul-next-2 Inv-loop μ-loop
 mul-next-2 c = omega arith
 
--- src/puts.rt:82:9
 add-next-2 : tie.Need-add-next-2 Inv-loop μ-loop
 add-next-2 c = omega (arith, sum-turn (now (c .before .before .before .before .before .before .before .before .before .before .before .before .before .args .counts)) (c .before .before .before .before .before .before .before .before .before .loop .i) (omega arith), c .before .before .before .before .before .before .wide16 .ensures .0)
 
--- src/puts.rt:83:9
 add-at : tie.Need-add-at Inv-loop μ-loop
 add-at c = search needs
 
--- src/puts.rt:84:9
 add-i : tie.Need-add-i Inv-loop μ-loop
 add-i c = search needs
 
--- src/puts.rt:79:5
 loop-less : tie.Need-loop-less Inv-loop μ-loop
 loop-less c = search needs
 
--- src/puts.rt:79:5
 loop-again : tie.Need-loop-again Inv-loop μ-loop
 loop-again c =
     let o = c .before .before .before .before .before .before .before .before .before .loop in
@@ -100,11 +84,9 @@ loop-again c =
       sym (entries-put (o .out) _ (now (a .ids)) n (o .i) (o .at) (o .next) _ _ (omega arith) l (omega arith) (c .before .before .before .before .before .before .wide16 .ensures .0) (c .before .before .before .wide162 .ensures .0) (c .before .before .put-entry .ensures)) ∙ o .inv .4,
     )
 
--- src/puts.rt:70:1
 same-length : tie.Need-same-length Inv-loop μ-loop
 same-length c = c .before .loop .inv .0
 
--- src/puts.rt:70:1
 returns : tie.Need-returns Inv-loop μ-loop
 returns c =
     let o = c .before .loop in

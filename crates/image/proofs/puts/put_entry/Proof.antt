@@ -9,31 +9,24 @@ use Rattle.image.proofs.puts.put_entry.Lts as lts
 use Rattle.image.proofs.puts.put16.Reads as put16-reads
 use Rattle.image.proofs.puts.put32.Reads as put32-reads
 
--- src/puts.rt:53:5
 put32-requires : tie.Need-put32-requires
 put32-requires c κs = search needs
 
--- src/puts.rt:54:16
 add-put16 : tie.Need-add-put16
 add-put16 c = search needs
 
--- src/puts.rt:54:5
 put16-requires : tie.Need-put16-requires
 put16-requires c κs = search needs
 
--- src/puts.rt:55:16
 add-put16-2 : tie.Need-add-put16-2
 add-put16-2 c = search needs
 
--- src/puts.rt:55:5
 put16-requires-2 : tie.Need-put16-requires-2
 put16-requires-2 c κs = search needs
 
--- src/puts.rt:49:1
 same-length : tie.Need-same-length
 same-length c = search needs
 
--- src/puts.rt:49:1
 returns : tie.Need-returns
 returns c = put-three 4 2 2 (now (c .before .before .before .before .before .before .before .before .before .before .before .before .before .args .out)) _ _ _ (c .before .before .before .before .before .before .before .before .before .before .before .before .before .args .at) _ _ _ (c .before .before .before .before .before .before .before .before .before .before .before .before .before .pre) (c .before .before .before .before .before .before .before .before .before .before .put32 .ensures) (c .before .before .before .before .before .before .put16 .ensures) (c .before .before .put162 .ensures)
 

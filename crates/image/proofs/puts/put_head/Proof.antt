@@ -9,35 +9,27 @@ use Rattle.image.proofs.puts.put_head.Tie as tie
 use Rattle.image.proofs.puts.put_head.Reads as reads
 use Rattle.image.proofs.puts.put_head.Lts as lts
 
--- src/puts.rt:63:5
 slice-write-out : tie.Need-slice-write-out
 slice-write-out c = search needs
 
--- src/puts.rt:64:14
 cast-out : tie.Need-cast-out
 cast-out c = search needs
 
--- src/puts.rt:64:5
 slice-write-out-2 : tie.Need-slice-write-out-2
 slice-write-out-2 c = simp length-set (omega arith)
 
--- src/puts.rt:65:14
 cast-out-2 : tie.Need-cast-out-2
 cast-out-2 c = search needs
 
--- src/puts.rt:65:5
 slice-write-out-3 : tie.Need-slice-write-out-3
 slice-write-out-3 c = simp length-set (omega arith)
 
--- src/puts.rt:66:5
 slice-write-out-4 : tie.Need-slice-write-out-4
 slice-write-out-4 c = search needs
 
--- src/puts.rt:59:1
 same-length : tie.Need-same-length
 same-length c = search needs
 
--- src/puts.rt:59:1
 returns : tie.Need-returns
 returns c = put-four (now (c .args .out)) _ _ (c .pre .0)
 

@@ -9,35 +9,27 @@ use Rattle.image.proofs.puts.put_rule_bytes.Lts as lts
 use Rattle.image.proofs.puts.put16.Reads as put16-reads
 use Rattle.image.proofs.puts.put64.Reads as put64-reads
 
--- src/puts.rt:44:5
 put64-requires : tie.Need-put64-requires
 put64-requires c κs = search needs
 
--- src/puts.rt:45:16
 add-put64 : tie.Need-add-put64
 add-put64 c = search needs
 
--- src/puts.rt:45:5
 put64-requires-2 : tie.Need-put64-requires-2
 put64-requires-2 c κs = search needs
 
--- src/puts.rt:46:16
 add-put16 : tie.Need-add-put16
 add-put16 c = search needs
 
--- src/puts.rt:46:25
 cast-put16 : tie.Need-cast-put16
 cast-put16 c = search needs
 
--- src/puts.rt:46:5
 put16-requires : tie.Need-put16-requires
 put16-requires c κs = search needs
 
--- src/puts.rt:40:1
 same-length : tie.Need-same-length
 same-length c = search needs
 
--- src/puts.rt:40:1
 returns : tie.Need-returns
 returns c = put-three 8 8 2 (now (c .before .before .before .before .before .before .before .before .before .before .before .before .before .before .args .out)) _ _ _ (c .before .before .before .before .before .before .before .before .before .before .before .before .before .before .args .at) _ _ _ (c .before .before .before .before .before .before .before .before .before .before .before .before .before .before .pre) (c .before .before .before .before .before .before .before .before .before .before .before .put64 .ensures) (c .before .before .before .before .before .before .before .put642 .ensures) (c .before .before .put16 .ensures)
 

@@ -24,31 +24,24 @@ Inv-loop out₀ from care value decision i₀ at₀ out i at =
 abbrev μ-loop : tie.MeasureT-loop
 μ-loop out₀ from care value decision i₀ at₀ out i at = length care - i
 
--- src/puts.rt:96:5
 loop-holds : tie.Need-loop-holds Inv-loop μ-loop
 loop-holds c = (refl, omega arith, omega arith, refl)
 
--- src/puts.rt:97:33
 rule-at-requires : tie.Need-rule-at-requires Inv-loop μ-loop
 rule-at-requires c κs = search needs
 
--- src/puts.rt:97:9
 put-rule-bytes-requires : tie.Need-put-rule-bytes-requires Inv-loop μ-loop
 put-rule-bytes-requires c κs = search needs
 
--- src/puts.rt:98:9
 add-at : tie.Need-add-at Inv-loop μ-loop
 add-at c = search needs
 
--- src/puts.rt:99:9
 add-i : tie.Need-add-i Inv-loop μ-loop
 add-i c = search needs
 
--- src/puts.rt:96:5
 loop-less : tie.Need-loop-less Inv-loop μ-loop
 loop-less c = search needs
 
--- src/puts.rt:96:5
 loop-again : tie.Need-loop-again Inv-loop μ-loop
 loop-again c =
     let o = c .before .before .before .before .before .before .loop in
@@ -61,11 +54,9 @@ loop-again c =
       sym (rules-put (o .out) _ rs (o .i) (o .at) _ (omega (arith, l)) (omega (arith, l)) (c .before .before .before .rule-at .ensures) (c .before .before .put-rule-bytes .ensures)) ∙ o .inv .3,
     )
 
--- src/puts.rt:89:1
 same-length : tie.Need-same-length Inv-loop μ-loop
 same-length c = c .before .loop .inv .0
 
--- src/puts.rt:89:1
 returns : tie.Need-returns Inv-loop μ-loop
 returns c =
     let o = c .before .loop in

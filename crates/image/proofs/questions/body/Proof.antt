@@ -12,52 +12,41 @@ use Rattle.image.proofs.questions.body.Lts as lts
 use Rattle.image.proofs.places.find.Reads as find-reads
 use Rattle.image.proofs.questions.body_refusal.Reads as body-refusal-reads
 
--- src/questions.rt:88:9
 body-refusal-requires : tie.Need-body-refusal-requires
 body-refusal-requires c κs = search needs
 
 enum-told : tie.Need-enum-told
 enum-told c = search needs
 
--- src/questions.rt:90:16
 enum-told-2 : tie.Need-enum-told-2
 enum-told-2 c = search needs
 
--- src/questions.rt:90:9
 slice-aggregate-result : tie.Need-slice-aggregate-result
 slice-aggregate-result c = search needs
 
--- src/questions.rt:90:9
 returns : tie.Need-returns
 returns c = body-none _ _ _ (c .before .before .before .body-refusal .ensures) (c .before .enum-told2 .given .1)
 
--- src/questions.rt:92:9
 find-requires : tie.Need-find-requires
 find-requires c κs =
     let f = id-facts _ _ _ (c .before .before .body-refusal .ensures) (c .enum-told .given .1) in
     (f .head .least, f .head .most, f .sums)
 
--- src/questions.rt:94:22
 mul-end : tie.Need-mul-end
 mul-end c = search needs
 
--- src/questions.rt:94:15
 add-end : tie.Need-add-end
 add-end c = search needs
 
--- src/questions.rt:95:5
 sub-result : tie.Need-sub-result
 sub-result c = search needs
 
--- src/questions.rt:95:5
 part-result-start : tie.Need-part-result-start
 part-result-start c = search needs
 
--- src/questions.rt:95:5
 part-result-end : tie.Need-part-result-end
 part-result-end c = search needs
 
--- src/questions.rt:85:1
 returns-2 : tie.Need-returns-2
 returns-2 c =
     let t = c .before .before in

@@ -17,31 +17,24 @@ Inv-loop b from count care₀ value₀ decision₀ i₀ at₀ care value decisio
 abbrev μ-loop : tie.MeasureT-loop
 μ-loop b from count care₀ value₀ decision₀ i₀ at₀ care value decision i at = count - i
 
--- src/reading.rt:36:5
 loop-holds : tie.Need-loop-holds Inv-loop μ-loop
 loop-holds c = (omega arith, omega arith, filling-start _ _ _ _ _)
 
--- src/reading.rt:37:44
 rule-in-requires : tie.Need-rule-in-requires Inv-loop μ-loop
 rule-in-requires c κs = search needs
 
--- src/reading.rt:37:9
 put-rule-requires : tie.Need-put-rule-requires Inv-loop μ-loop
 put-rule-requires c κs = search needs
 
--- src/reading.rt:38:9
 add-i : tie.Need-add-i Inv-loop μ-loop
 add-i c = search needs
 
--- src/reading.rt:39:9
 add-at : tie.Need-add-at Inv-loop μ-loop
 add-at c = search needs
 
--- src/reading.rt:36:5
 loop-less : tie.Need-loop-less Inv-loop μ-loop
 loop-less c = search needs
 
--- src/reading.rt:36:5
 loop-again : tie.Need-loop-again Inv-loop μ-loop
 loop-again c =
     let t = c .before .before .before .before .before .before in
@@ -52,19 +45,15 @@ loop-again c =
       filling-turn (now (a .args .b)) (a .args .from) (o .at) (o .i) _ _ _ _ _ _ _ _ _ _ (omega arith) (a .pre .2) (o .inv .2) (o .inv .0) (t .before .rule-in .ensures) (t .put-rule .ensures),
     )
 
--- src/reading.rt:20:1
 same-length : tie.Need-same-length Inv-loop μ-loop
 same-length c = c .before .loop .inv .2 .kept .cares
 
--- src/reading.rt:20:1
 same-length-2 : tie.Need-same-length-2 Inv-loop μ-loop
 same-length-2 c = c .before .loop .inv .2 .kept .values
 
--- src/reading.rt:20:1
 same-length-3 : tie.Need-same-length-3 Inv-loop μ-loop
 same-length-3 c = c .before .loop .inv .2 .kept .decisions
 
--- src/reading.rt:20:1
 returns : tie.Need-returns Inv-loop μ-loop
 returns c =
     let o = c .before .loop in

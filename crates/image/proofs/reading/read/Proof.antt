@@ -13,68 +13,53 @@ use Rattle.image.proofs.questions.body_refusal.Reads as body-refusal-re
 use Rattle.image.proofs.reading.fill.Reads as fill-reads
 use Rattle.image.proofs.reading.not_read.Reads as not-read-reads
 
--- src/reading.rt:67:9
 body-refusal-requires : tie.Need-body-refusal-requires
 body-refusal-requires c κs = search needs
 
--- src/reading.rt:68:29
 enum-known-v : tie.Need-enum-known-v
 enum-known-v c = search needs
 
--- src/reading.rt:69:9
 returns : tie.Need-returns
 returns c = read-refuses _ _ _ _ _ _ _ _ _ refl (read-id _ _ _ _ _ _ (c .before .before .before .body-refusal .ensures) (c .before .v .given .1))
 
 enum-told : tie.Need-enum-told
 enum-told c = search needs
 
--- src/reading.rt:72:9
 not-read-requires : tie.Need-not-read-requires
 not-read-requires c κs = search needs
 
--- src/reading.rt:72:9
 returns-2 : tie.Need-returns-2
 returns-2 c = read-refuses _ _ _ _ _ _ _ _ _ (c .not-read .ensures) (read-values _ _ _ _ _ _ (c .before .before .before .before .body-refusal .ensures) (c .before .before .enum-told .given .1) (c .before .if1 .taken))
 
--- src/reading.rt:75:9
 not-read-requires-2 : tie.Need-not-read-requires-2
 not-read-requires-2 c κs = search needs
 
--- src/reading.rt:75:9
 returns-3 : tie.Need-returns-3
 returns-3 c = read-refuses _ _ _ _ _ _ _ _ _ (c .not-read2 .ensures) (read-decisions _ _ _ _ _ _ (c .before .before .before .before .before .body-refusal .ensures) (c .before .before .before .enum-told .given .1) (c .before .before .if1 .left) (c .before .if2 .taken))
 
--- src/reading.rt:77:9
 find-requires : tie.Need-find-requires
 find-requires c κs =
     let f = id-facts _ _ _ (c .before .before .before .before .body-refusal .ensures) (c .before .before .enum-told .given .1) in
     (f .head .least, f .head .most, f .sums)
 
--- src/reading.rt:81:9
 not-read-requires-3 : tie.Need-not-read-requires-3
 not-read-requires-3 c κs = search needs
 
--- src/reading.rt:81:9
 returns-4 : tie.Need-returns-4
 returns-4 c = read-refuses _ _ _ _ _ _ _ _ _ (c .not-read3 .ensures) (read-room _ _ _ _ _ _ (c .before .before .before .before .before .before .before .body-refusal .ensures) (c .before .before .before .before .before .enum-told .given .1) (c .before .before .before .before .if1 .left) (c .before .before .before .if2 .left) _ (c .before .before .find .ensures .0) (omega arith))
 
--- src/reading.rt:83:5
 fill-requires : tie.Need-fill-requires
 fill-requires c κs = search needs
 
--- src/reading.rt:56:1
 same-length : tie.Need-same-length
 same-length c = search needs
 
--- src/reading.rt:56:1
 same-length-2 : tie.Need-same-length-2
 same-length-2 c = search needs
 
--- src/reading.rt:56:1
 same-length-3 : tie.Need-same-length-3
 same-length-3 c = search needs
 
--- src/reading.rt:56:1
 returns-5 : tie.Need-returns-5
 returns-5 c =
     let t = c .before .before .before .before .before .before in

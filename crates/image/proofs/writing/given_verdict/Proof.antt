@@ -9,43 +9,33 @@ use Rattle.image.proofs.writing.given_verdict.Lts as lts
 use Rattle.image.proofs.checks.refused.Reads as refused-reads
 use Rattle.image.proofs.writing.adds_up.Reads as adds-up-reads
 
--- src/writing.rt:48:9
 refused-requires : tie.Need-refused-requires
 refused-requires c κs = search needs
 
--- src/writing.rt:48:9
 returns : tie.Need-returns
 returns c = c .refused .ensures ∙ given-ids _ _ _ _ _ (c .before .if1 .taken)
 
--- src/writing.rt:51:9
 refused-requires-2 : tie.Need-refused-requires-2
 refused-requires-2 c κs = search needs
 
--- src/writing.rt:51:9
 returns-2 : tie.Need-returns-2
 returns-2 c = c .refused2 .ensures ∙ given-values _ _ _ _ _ (c .before .before .if1 .left) (c .before .if2 .taken)
 
--- src/writing.rt:54:9
 refused-requires-3 : tie.Need-refused-requires-3
 refused-requires-3 c κs = search needs
 
--- src/writing.rt:54:9
 returns-3 : tie.Need-returns-3
 returns-3 c = c .refused3 .ensures ∙ given-decisions _ _ _ _ _ (c .before .before .before .if1 .left) (c .before .before .if2 .left) (c .before .if3 .taken)
 
--- src/writing.rt:56:8
 adds-up-requires : tie.Need-adds-up-requires
 adds-up-requires c κs = search needs
 
--- src/writing.rt:57:9
 returns-4 : tie.Need-returns-4
 returns-4 c = given-fine _ _ _ _ _ (c .before .before .before .before .if1 .left) (c .before .before .before .if2 .left) (c .before .before .if3 .left) _ (c .before .adds-up .ensures) (c .if4 .taken)
 
--- src/writing.rt:59:5
 refused-requires-4 : tie.Need-refused-requires-4
 refused-requires-4 c κs = search needs
 
--- src/writing.rt:37:1
 returns-5 : tie.Need-returns-5
 returns-5 c = c .refused4 .ensures ∙ given-sum _ _ _ _ _ (c .before .before .before .before .before .if1 .left) (c .before .before .before .before .if2 .left) (c .before .before .before .if3 .left) _ (c .before .before .adds-up .ensures) (c .before .if4 .left)
 

@@ -24,90 +24,69 @@ Inv-loop width ids counts care value decision from₀ i₀ from i =
 abbrev μ-loop : tie.MeasureT-loop
 μ-loop width ids counts care value decision from₀ i₀ from i = length ids - i
 
--- src/writing.rt:131:5
 loop-holds : tie.Need-loop-holds Inv-loop μ-loop
 loop-holds c = (omega arith, omega arith, refl)
 
--- src/writing.rt:132:33
 mul-wide16 : tie.Need-mul-wide16 Inv-loop μ-loop
 mul-wide16 c = search needs
 
--- src/writing.rt:132:33
 shared-slice-read-wide16 : tie.Need-shared-slice-read-wide16 Inv-loop μ-loop
 shared-slice-read-wide16 c = search needs
 
--- src/writing.rt:132:26
 wide16-requires : tie.Need-wide16-requires Inv-loop μ-loop
 wide16-requires c κs = search needs
 
--- src/writing.rt:132:19
 add-end : tie.Need-add-end Inv-loop μ-loop
 add-end c = search needs
 
--- src/writing.rt:134:13
 add-check-list-as : tie.Need-add-check-list-as Inv-loop μ-loop
 add-check-list-as c = search needs
 
--- src/writing.rt:136:13
 mul-check-list-as : tie.Need-mul-check-list-as Inv-loop μ-loop
 mul-check-list-as c = search needs
 
--- src/writing.rt:136:13
 sub-check-list-as : tie.Need-sub-check-list-as Inv-loop μ-loop
 sub-check-list-as c = search needs
 
--- src/writing.rt:136:13
 part-check-list-as-start : tie.Need-part-check-list-as-start Inv-loop μ-loop
 part-check-list-as-start c = search needs
 
--- src/writing.rt:136:13
 part-check-list-as-end : tie.Need-part-check-list-as-end Inv-loop μ-loop
 part-check-list-as-end c = omega (arith, c .before .before .before .loop .inv .1, sum-turn (now (c .before .before .before .before .before .before .before .before .before .args .counts)) (c .before .before .before .loop .i) (omega arith), c .wide16 .ensures .0)
 
--- src/writing.rt:137:13
 mul-check-list-as-2 : tie.Need-mul-check-list-as-2 Inv-loop μ-loop
 mul-check-list-as-2 c = search needs
 
--- src/writing.rt:137:13
 sub-check-list-as-2 : tie.Need-sub-check-list-as-2 Inv-loop μ-loop
 sub-check-list-as-2 c = search needs
 
--- src/writing.rt:137:13
 part-check-list-as-start-2 : tie.Need-part-check-list-as-start-2 Inv-loop μ-loop
 part-check-list-as-start-2 c = search needs
 
--- src/writing.rt:137:13
 part-check-list-as-end-2 : tie.Need-part-check-list-as-end-2 Inv-loop μ-loop
 part-check-list-as-end-2 c = omega (arith, c .before .before .before .before .loop .inv .1, sum-turn (now (c .before .before .before .before .before .before .before .before .before .before .args .counts)) (c .before .before .before .before .loop .i) (omega arith), c .before .wide16 .ensures .0)
 
--- src/writing.rt:138:13
 mul-check-list-as-3 : tie.Need-mul-check-list-as-3 Inv-loop μ-loop
 mul-check-list-as-3 c = search needs
 
--- src/writing.rt:138:13
 sub-check-list-as-3 : tie.Need-sub-check-list-as-3 Inv-loop μ-loop
 sub-check-list-as-3 c = search needs
 
--- src/writing.rt:138:13
 part-check-list-as-start-3 : tie.Need-part-check-list-as-start-3 Inv-loop μ-loop
 part-check-list-as-start-3 c = search needs
 
--- src/writing.rt:138:13
 part-check-list-as-end-3 : tie.Need-part-check-list-as-end-3 Inv-loop μ-loop
 part-check-list-as-end-3 c = omega (arith, c .before .before .before .before .before .loop .inv .1, sum-turn (now (c .before .before .before .before .before .before .before .before .before .before .before .args .counts)) (c .before .before .before .before .before .loop .i) (omega arith), c .before .before .wide16 .ensures .0)
 
--- src/writing.rt:133:13
 check-list-as-requires : tie.Need-check-list-as-requires Inv-loop μ-loop
 check-list-as-requires c κs = search needs
 
 enum-told : tie.Need-enum-told Inv-loop μ-loop
 enum-told c = search needs
 
--- src/writing.rt:141:13
 enum-told-2 : tie.Need-enum-told-2 Inv-loop μ-loop
 enum-told-2 c = search needs
 
--- src/writing.rt:141:13
 returns : tie.Need-returns Inv-loop μ-loop
 returns c =
     let o = c .before .before .before .before .before .before .before .before .before .loop in
@@ -120,15 +99,12 @@ returns c =
     sym (o .inv .2 ∙ cut-stop _ (o .i) (o .from) k (o .from + k) (now (a .ids)) n (now (a .care)) (now (a .value)) (now (a .decision)) (omega arith) l (c .before .before .before .before .before .before .wide16 .ensures .0) (c .before .before .before .before .before .before .before .before .before .before .before .before .before .before .before .pre .0) (c .before .before .before .before .before .before .before .before .before .before .before .before .before .before .before .pre .1) (c .before .before .before .before .before .before .before .before .before .before .before .before .before .before .before .pre .4)
     (omega (arith, o .inv .1, s, c .before .before .before .before .before .before .wide16 .ensures .0)) (omega (arith, small, c .before .before .before .before .before .before .wide16 .ensures .0)) (add-sub-cancel-left (o .from) k) _ (c .before .before .check-list-as .ensures) (c .enum-told2 .given .1))
 
--- src/writing.rt:144:9
 add-i : tie.Need-add-i Inv-loop μ-loop
 add-i c = search needs
 
--- src/writing.rt:131:5
 loop-less : tie.Need-loop-less Inv-loop μ-loop
 loop-less c = search needs
 
--- src/writing.rt:131:5
 loop-again : tie.Need-loop-again Inv-loop μ-loop
 loop-again c =
     let o = c .before .before .before .before .before .before .before .before .before .loop in
@@ -144,7 +120,6 @@ loop-again c =
           (omega (arith, o .inv .1, s, c .before .before .before .before .before .before .wide16 .ensures .0)) (omega (arith, small, c .before .before .before .before .before .before .wide16 .ensures .0)) (add-sub-cancel-left (o .from) k) _ (c .before .before .check-list-as .ensures) refl (c .enum-told .given .1),
     )
 
--- src/writing.rt:115:1
 returns-2 : tie.Need-returns-2 Inv-loop μ-loop
 returns-2 c = sym (c .before .loop .inv .2 ∙ cut-end _ (c .before .loop .i) _ _ _ (omega arith))
 

@@ -10,54 +10,42 @@ use Rattle.image.proofs.writing.shape_verdict.Lts as lts
 use Rattle.image.proofs.checks.refused.Reads as refused-reads
 use Rattle.image.proofs.writing.given_verdict.Reads as given-verdict-reads
 
--- src/writing.rt:75:9
 refused-requires : tie.Need-refused-requires
 refused-requires c κs = search needs
 
--- src/writing.rt:75:9
 returns : tie.Need-returns
 returns c = c .refused .ensures ∙ shape-low _ _ _ _ _ _ (omega arith)
 
--- src/writing.rt:78:9
 refused-requires-2 : tie.Need-refused-requires-2
 refused-requires-2 c κs = search needs
 
--- src/writing.rt:78:9
 returns-2 : tie.Need-returns-2
 returns-2 c = c .refused2 .ensures ∙ shape-high _ _ _ _ _ _ (omega arith) (omega arith)
 
--- src/writing.rt:80:9
 given-verdict-requires : tie.Need-given-verdict-requires
 given-verdict-requires c κs = search needs
 
 enum-told : tie.Need-enum-told
 enum-told c = search needs
 
--- src/writing.rt:82:9
 enum-told-2 : tie.Need-enum-told-2
 enum-told-2 c = search needs
 
--- src/writing.rt:82:9
 returns-3 : tie.Need-returns-3
 returns-3 c = shape-given _ _ _ _ _ _ (omega arith) (omega arith) _ (c .before .before .given-verdict .ensures) (c .enum-told2 .given .1)
 
--- src/writing.rt:85:9
 refused-requires-3 : tie.Need-refused-requires-3
 refused-requires-3 c κs = search needs
 
--- src/writing.rt:85:9
 returns-4 : tie.Need-returns-4
 returns-4 c = c .refused3 .ensures ∙ shape-none _ _ _ _ _ _ (omega arith) (omega arith) _ (c .before .before .before .before .given-verdict .ensures) (c .before .before .enum-told .given .1) (omega arith)
 
--- src/writing.rt:88:9
 refused-requires-4 : tie.Need-refused-requires-4
 refused-requires-4 c κs = search needs
 
--- src/writing.rt:88:9
 returns-5 : tie.Need-returns-5
 returns-5 c = c .refused4 .ensures ∙ shape-many _ _ _ _ _ _ (omega arith) (omega arith) _ (c .before .before .before .before .before .given-verdict .ensures) (c .before .before .before .enum-told .given .1) (omega arith) (omega arith)
 
--- src/writing.rt:63:1
 returns-6 : tie.Need-returns-6
 returns-6 c = shape-fine _ _ _ _ _ _ (omega arith) (omega arith) _ (c .before .before .before .before .given-verdict .ensures) (c .before .before .enum-told .given .1) (omega arith) (omega arith)
 

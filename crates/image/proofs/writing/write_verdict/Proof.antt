@@ -13,37 +13,30 @@ use Rattle.image.proofs.writing.lists_verdict.Reads as lists-verdict-re
 use Rattle.image.proofs.writing.names_verdict.Reads as names-verdict-reads
 use Rattle.image.proofs.writing.shape_verdict.Reads as shape-verdict-reads
 
--- src/writing.rt:162:9
 shape-verdict-requires : tie.Need-shape-verdict-requires
 shape-verdict-requires c κs = search needs
 
 enum-told : tie.Need-enum-told
 enum-told c = search needs
 
--- src/writing.rt:164:9
 enum-told-2 : tie.Need-enum-told-2
 enum-told-2 c = search needs
 
--- src/writing.rt:164:9
 returns : tie.Need-returns
 returns c = write-shape _ _ _ _ _ _ _ _ (c .before .before .shape-verdict .ensures) (c .enum-told2 .given .1)
 
--- src/writing.rt:166:9
 names-verdict-requires : tie.Need-names-verdict-requires
 names-verdict-requires c κs = shape-facts _ _ _ _ _ _ (sym (c .before .before .shape-verdict .ensures) ∙ ap verdictReply (c .enum-told .given .1)) .paired
 
 enum-told-3 : tie.Need-enum-told-3
 enum-told-3 c = search needs
 
--- src/writing.rt:168:9
 enum-told-4 : tie.Need-enum-told-4
 enum-told-4 c = search needs
 
--- src/writing.rt:168:9
 returns-2 : tie.Need-returns-2
 returns-2 c = write-names _ _ _ _ _ _ _ _ (c .before .before .before .before .before .shape-verdict .ensures) (c .before .before .before .enum-told .given .1) _ (c .before .before .names-verdict .ensures) (c .enum-told4 .given .1)
 
--- src/writing.rt:170:9
 lists-verdict-requires : tie.Need-lists-verdict-requires
 lists-verdict-requires c κs =
     let s = shape-facts _ _ _ _ _ _ (sym (c .before .before .before .before .before .shape-verdict .ensures) ∙ ap verdictReply (c .before .before .before .enum-told .given .1)) in
@@ -52,59 +45,48 @@ lists-verdict-requires c κs =
 enum-told-5 : tie.Need-enum-told-5
 enum-told-5 c = search needs
 
--- src/writing.rt:172:9
 enum-told-6 : tie.Need-enum-told-6
 enum-told-6 c = search needs
 
--- src/writing.rt:172:9
 returns-3 : tie.Need-returns-3
 returns-3 c = write-lists _ _ _ _ _ _ _ _ (c .before .before .before .before .before .before .before .before .shape-verdict .ensures) (c .before .before .before .before .before .before .enum-told .given .1) _ (c .before .before .before .before .before .names-verdict .ensures) (c .before .before .before .enum-told3 .given .1) _ (c .before .before .lists-verdict .ensures) (c .enum-told6 .given .1)
 
--- src/writing.rt:174:20
 mul-size : tie.Need-mul-size
 mul-size c =
     let s = shape-facts _ _ _ _ _ _ (sym (c .before .before .before .before .before .before .before .before .shape-verdict .ensures) ∙ ap verdictReply (c .before .before .before .before .before .before .enum-told .given .1)) in
     let n = names-sum 1 0 _ _ (s .paired) (sym (c .before .before .before .before .before .names-verdict .ensures) ∙ ap verdictReply (c .before .before .before .enum-told3 .given .1)) in
     omega (arith, s .few, s .sums, n)
 
--- src/writing.rt:174:16
 add-size : tie.Need-add-size
 add-size c =
     let s = shape-facts _ _ _ _ _ _ (sym (c .before .before .before .before .before .before .before .before .shape-verdict .ensures) ∙ ap verdictReply (c .before .before .before .before .before .before .enum-told .given .1)) in
     let n = names-sum 1 0 _ _ (s .paired) (sym (c .before .before .before .before .before .names-verdict .ensures) ∙ ap verdictReply (c .before .before .before .enum-told3 .given .1)) in
     omega (arith, s .few, s .sums, n)
 
--- src/writing.rt:174:36
 mul-size-2 : tie.Need-mul-size-2
 mul-size-2 c =
     let s = shape-facts _ _ _ _ _ _ (sym (c .before .before .before .before .before .before .before .before .shape-verdict .ensures) ∙ ap verdictReply (c .before .before .before .before .before .before .enum-told .given .1)) in
     let n = names-sum 1 0 _ _ (s .paired) (sym (c .before .before .before .before .before .names-verdict .ensures) ∙ ap verdictReply (c .before .before .before .enum-told3 .given .1)) in
     omega (arith, s .few, s .sums, n)
 
--- src/writing.rt:174:16
 add-size-2 : tie.Need-add-size-2
 add-size-2 c =
     let s = shape-facts _ _ _ _ _ _ (sym (c .before .before .before .before .before .before .before .before .shape-verdict .ensures) ∙ ap verdictReply (c .before .before .before .before .before .before .enum-told .given .1)) in
     let n = names-sum 1 0 _ _ (s .paired) (sym (c .before .before .before .before .before .names-verdict .ensures) ∙ ap verdictReply (c .before .before .before .enum-told3 .given .1)) in
     omega (arith, s .few, s .sums, n)
 
--- src/writing.rt:176:9
 refused-requires : tie.Need-refused-requires
 refused-requires c κs = search needs
 
--- src/writing.rt:176:9
 returns-4 : tie.Need-returns-4
 returns-4 c = c .refused .ensures ∙ write-ten _ _ _ _ _ _ _ _ (c .before .before .before .before .before .before .before .before .before .before .shape-verdict .ensures) (c .before .before .before .before .before .before .before .before .enum-told .given .1) _ (c .before .before .before .before .before .before .before .names-verdict .ensures) (c .before .before .before .before .before .enum-told3 .given .1) _ (c .before .before .before .before .lists-verdict .ensures) (c .before .before .enum-told5 .given .1) (omega arith)
 
--- src/writing.rt:179:9
 refused-requires-2 : tie.Need-refused-requires-2
 refused-requires-2 c κs = search needs
 
--- src/writing.rt:179:9
 returns-5 : tie.Need-returns-5
 returns-5 c = c .refused2 .ensures ∙ write-seven _ _ _ _ _ _ _ _ (c .before .before .before .before .before .before .before .before .before .before .before .shape-verdict .ensures) (c .before .before .before .before .before .before .before .before .before .enum-told .given .1) _ (c .before .before .before .before .before .before .before .before .names-verdict .ensures) (c .before .before .before .before .before .before .enum-told3 .given .1) _ (c .before .before .before .before .before .lists-verdict .ensures) (c .before .before .before .enum-told5 .given .1) (omega arith) (omega arith)
 
--- src/writing.rt:150:1
 returns-6 : tie.Need-returns-6
 returns-6 c = write-fine _ _ _ _ _ _ _ _ (c .before .before .before .before .before .before .before .before .before .before .shape-verdict .ensures) (c .before .before .before .before .before .before .before .before .enum-told .given .1) _ (c .before .before .before .before .before .before .before .names-verdict .ensures) (c .before .before .before .before .before .enum-told3 .given .1) _ (c .before .before .before .before .lists-verdict .ensures) (c .before .before .enum-told5 .given .1) (omega arith) (omega arith)
 

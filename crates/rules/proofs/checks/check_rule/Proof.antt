@@ -11,24 +11,19 @@ use Rattle.rules.proofs.checks.is_width.Reads as is-width-reads
 use Rattle.rules.proofs.checks.refused.Reads as refused-reads
 use Rattle.rules.proofs.checks.rule_verdict.Reads as rule-verdict-reads
 
--- src/checks.rt:76:8
 is-width-requires : tie.Need-is-width-requires
 is-width-requires c κs = search needs
 
--- src/checks.rt:77:9
 rule-verdict-requires : tie.Need-rule-verdict-requires
 rule-verdict-requires c κs = width-most _ (sym (c .before .is-width .ensures) ∙ c .if1 .taken)
 
--- src/checks.rt:77:9
 returns : tie.Need-returns
 unfolding checkRule
 returns c = c .rule-verdict .ensures ∙ sym (then-next _ _ (width-yes _ (sym (c .before .before .is-width .ensures) ∙ c .before .if1 .taken)))
 
--- src/checks.rt:79:5
 refused-requires : tie.Need-refused-requires
 refused-requires c κs = search needs
 
--- src/checks.rt:73:1
 returns-2 : tie.Need-returns-2
 unfolding checkRule
 returns-2 c =

@@ -8,25 +8,20 @@ use Rattle.rules.proofs.checks.pattern_fits.Reads as reads
 use Rattle.rules.proofs.checks.pattern_fits.Lts as lts
 use Rattle.rules.proofs.patterns.below.Reads as below-reads
 
--- src/checks.rt:36:5
 below-requires : tie.Need-below-requires
 below-requires c κs = search needs
 
--- src/checks.rt:36:33
 below-requires-2 : tie.Need-below-requires-2
 below-requires-2 c κs = search needs
 
--- src/checks.rt:32:1
 returns : tie.Need-returns
 unfolding patternFits
 returns c = and-on (sym (c .before .before .before .below2 .ensures) ∙ c .before .before .if2 .taken) ∙ and-on (sym (c .before .before .before .before .before .below .ensures) ∙ c .before .before .before .before .if1 .taken)
 
--- src/checks.rt:32:1
 returns-2 : tie.Need-returns-2
 unfolding patternFits
 returns-2 c = c .if2 .left ∙ and-off _ (sym (c .before .below2 .ensures) ∙ c .if2 .left) ∙ and-on (sym (c .before .before .before .below .ensures) ∙ c .before .before .if1 .taken)
 
--- src/checks.rt:32:1
 returns-3 : tie.Need-returns-3
 unfolding patternFits
 returns-3 c = c .if1 .left ∙ and-off _ (sym (c .before .below .ensures) ∙ c .if1 .left)

@@ -22,45 +22,36 @@ Inv-loop list width care value decision i₀ i =
 abbrev μ-loop : tie.MeasureT-loop
 μ-loop list width care value decision i₀ i = length care - i
 
--- src/checks.rt:61:5
 loop-holds : tie.Need-loop-holds Inv-loop μ-loop
 loop-holds c = (omega arith, refl)
 
--- src/checks.rt:62:13
 rule-at-requires : tie.Need-rule-at-requires Inv-loop μ-loop
 rule-at-requires c κs = search needs
 
--- src/checks.rt:63:43
 add-rule-verdict : tie.Need-add-rule-verdict Inv-loop μ-loop
 add-rule-verdict c = search needs
 
--- src/checks.rt:63:13
 rule-verdict-requires : tie.Need-rule-verdict-requires Inv-loop μ-loop
 rule-verdict-requires c κs = search needs
 
 enum-told : tie.Need-enum-told Inv-loop μ-loop
 enum-told c = search needs
 
--- src/checks.rt:65:13
 enum-told-2 : tie.Need-enum-told-2 Inv-loop μ-loop
 enum-told-2 c = search needs
 
--- src/checks.rt:65:13
 returns : tie.Need-returns Inv-loop μ-loop
 returns c =
     let o = c .before .before .before .before .before .loop in
     sym (o .inv .1 ∙ rules-stop _ _ (o .i) _ (c .before .before .rule-verdict .result) (below-rules _ _ _ _ (search needs) (c .before .before .before .before .loop-test .taken))
     (c .before .before .rule-verdict .ensures ∙ ap (ruleCheck _ _ _) (c .before .before .before .rule-at .ensures)) (c .enum-told2 .given .1))
 
--- src/checks.rt:67:9
 add-i : tie.Need-add-i Inv-loop μ-loop
 add-i c = search needs
 
--- src/checks.rt:61:5
 loop-less : tie.Need-loop-less Inv-loop μ-loop
 loop-less c = search needs
 
--- src/checks.rt:61:5
 loop-again : tie.Need-loop-again Inv-loop μ-loop
 loop-again c =
     let o = c .before .before .before .before .before .loop in (
@@ -69,7 +60,6 @@ loop-again c =
           (c .before .before .rule-verdict .ensures ∙ ap (ruleCheck _ _ _) (c .before .before .before .rule-at .ensures)) (c .enum-told .given .1),
     )
 
--- src/checks.rt:54:1
 returns-2 : tie.Need-returns-2 Inv-loop μ-loop
 returns-2 c =
     let o = c .before .loop in

@@ -17,39 +17,31 @@ Inv-loop care value decision header i₀ i = (i ≤ length care) × Passed (rule
 abbrev μ-loop : tie.MeasureT-loop
 μ-loop care value decision header i₀ i = length care - i
 
--- src/lookups.rt:29:5
 loop-holds : tie.Need-loop-holds Inv-loop μ-loop
 loop-holds c = (omega arith, passed-none _ _)
 
--- src/lookups.rt:30:25
 rule-at-requires : tie.Need-rule-at-requires Inv-loop μ-loop
 rule-at-requires c κs = search needs
 
--- src/lookups.rt:30:12
 rule-matches-requires : tie.Need-rule-matches-requires Inv-loop μ-loop
 rule-matches-requires c κs = search needs
 
--- src/lookups.rt:31:13
 returns : tie.Need-returns Inv-loop μ-loop
 returns c =
     let o = c .before .before .before .before .loop in
     passed-hit _ _ _ _ _ (search needs) (o .inv .1) _ _ (c .before .before .before .loop-test .taken) (c .before .before .rule-at .ensures) (c .before .rule-matches .ensures) (c .if1 .taken)
 
--- src/lookups.rt:33:9
 add-i : tie.Need-add-i Inv-loop μ-loop
 add-i c = search needs
 
--- src/lookups.rt:29:5
 loop-less : tie.Need-loop-less Inv-loop μ-loop
 loop-less c = search needs
 
--- src/lookups.rt:29:5
 loop-again : tie.Need-loop-again Inv-loop μ-loop
 loop-again c =
     let o = c .before .before .before .before .loop in
     (omega arith, passed-more _ _ _ _ _ (search needs) (o .inv .1) _ _ (c .before .before .before .loop-test .taken) (c .before .before .rule-at .ensures) (c .before .rule-matches .ensures) (c .if1 .left))
 
--- src/lookups.rt:24:1
 returns-2 : tie.Need-returns-2 Inv-loop μ-loop
 returns-2 c = passed-all _ _ _ _ _ (search needs) (c .before .loop .inv .1) (c .before .loop .inv .0) (c .loop-test .left)
 

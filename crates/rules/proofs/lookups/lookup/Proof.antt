@@ -12,15 +12,12 @@ use Rattle.rules.proofs.lookups.first_match.Reads as first-match-reads
 use Rattle.rules.proofs.patterns.below.Reads as below-reads
 use Rattle.rules.proofs.slices.rule_at.Reads as rule-at-reads
 
--- src/lookups.rt:43:9
 check-list-requires : tie.Need-check-list-requires
 check-list-requires c κs = search needs
 
--- src/lookups.rt:44:29
 enum-known-v : tie.Need-enum-known-v
 enum-known-v c = search needs
 
--- src/lookups.rt:45:9
 returns : tie.Need-returns
 unfolding lookedUp
 returns c = sym (refused-stop _ _ _ (c .before .before .before .check-list .ensures) (c .before .v .given .1))
@@ -28,35 +25,27 @@ returns c = sym (refused-stop _ _ _ (c .before .before .before .check-list .ensu
 enum-told : tie.Need-enum-told
 enum-told c = search needs
 
--- src/lookups.rt:47:8
 below-requires : tie.Need-below-requires
 below-requires c κs = looked-sound _ _ _ _ (c .before .before .before .before .before .before .args .header .0) _ (c .before .before .check-list .ensures) (c .enum-told .given .1) .most
 
--- src/lookups.rt:48:28
 first-match-requires : tie.Need-first-match-requires
 first-match-requires c κs = looked-sound _ _ _ _ (c .before .before .before .before .before .before .before .before .args .header .0) _ (c .before .before .before .before .check-list .ensures) (c .before .before .enum-told .given .1) .lent
 
--- src/lookups.rt:48:23
 enum-known-i : tie.Need-enum-known-i
 enum-known-i c = search needs
 
--- src/lookups.rt:49:13
 enum-told-2 : tie.Need-enum-told-2
 enum-told-2 c = search needs
 
--- src/lookups.rt:49:13
 returns-2 : tie.Need-returns-2
 returns-2 c = looked-miss _ _ _ _ _ _ (c .before .before .before .before .before .before .before .check-list .ensures) (c .before .before .before .before .before .enum-told .given .1) _ (c .before .before .before .before .below .ensures) (c .before .before .before .if1 .taken) _ (c .before .before .first-match .ensures) (c .enum-told2 .given .1)
 
--- src/lookups.rt:51:13
 rule-at-requires : tie.Need-rule-at-requires
 rule-at-requires c κs = search needs
 
--- src/lookups.rt:52:9
 returns-3 : tie.Need-returns-3
 returns-3 c = looked-hit _ _ _ _ _ _ (c .before .before .before .before .before .before .before .before .before .check-list .ensures) (c .before .before .before .before .before .before .before .enum-told .given .1) _ (c .before .before .before .before .before .before .below .ensures) (c .before .before .before .before .before .if1 .taken) _ _ _ (c .before .before .before .before .first-match .ensures) (c .before .before .i .given .1) (c .rule-at .ensures)
 
--- src/lookups.rt:39:1
 returns-4 : tie.Need-returns-4
 returns-4 c = sym (looked-six _ _ _ _ _ _ (c .before .before .before .before .check-list .ensures) (c .before .before .enum-told .given .1) _ (c .before .below .ensures) (c .if1 .left))
 

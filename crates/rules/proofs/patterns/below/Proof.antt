@@ -8,15 +8,12 @@ use Rattle.rules.proofs.patterns.below.Tie as tie
 use Rattle.rules.proofs.patterns.below.Reads as reads
 use Rattle.rules.proofs.patterns.below.Lts as lts
 
--- src/patterns.rt:14:16
 shr-result : tie.Need-shr-result
 shr-result c = search needs
 
--- src/patterns.rt:14:9
 returns : tie.Need-returns
 returns c = below-shift (c .before .args .word) (c .before .args .width)
 
--- src/patterns.rt:9:1
 returns-2 : tie.Need-returns-2
 returns-2 c = sym (lt-ltb _ _ (below-full (c .before .args .word) (c .before .args .width) (omega arith) (omega arith)))
 

@@ -7,12 +7,10 @@ use Rattle.rules.proofs.patterns.rule_covers.Tie as tie
 use Rattle.rules.proofs.patterns.rule_covers.Reads as reads
 use Rattle.rules.proofs.patterns.rule_covers.Lts as lts
 
--- src/patterns.rt:27:1
 returns : tie.Need-returns
 unfolding covers
 returns c = and-on (eq-eqb _ _ (c .before .before .before .if1 .taken))
 
--- src/patterns.rt:27:1
 returns-2 : tie.Need-returns-2
 unfolding covers
 returns-2 c = ne-eqb _ _ (c .if1 .left) ∙ and-off _ (ne-eqb _ _ (c .if1 .left))

@@ -8,12 +8,10 @@ use Rattle.rules.proofs.patterns.rule_crosses.Tie as tie
 use Rattle.rules.proofs.patterns.rule_crosses.Reads as reads
 use Rattle.rules.proofs.patterns.rule_crosses.Lts as lts
 
--- src/patterns.rt:34:1
 returns : tie.Need-returns
 unfolding crosses
 returns c = and-on (ap not (ne-eqb _ _ (c .before .if1 .taken)))
 
--- src/patterns.rt:34:1
 returns-2 : tie.Need-returns-2
 unfolding crosses
 returns-2 c = ap not (eq-eqb _ _ (c .if1 .left)) ∙ and-off _ (ap not (eq-eqb _ _ (c .if1 .left)))

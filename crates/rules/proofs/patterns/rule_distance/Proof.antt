@@ -6,7 +6,6 @@ use Rattle.rules.proofs.patterns.rule_distance.Tie as tie
 use Rattle.rules.proofs.patterns.rule_distance.Reads as reads
 use Rattle.rules.proofs.patterns.rule_distance.Lts as lts
 
--- src/patterns.rt:42:1
 returns : tie.Need-returns
 unfolding distance
 returns c = sym (setBits-ones _)

@@ -5,7 +5,6 @@ use Rattle.rules.proofs.patterns.rule_matches.Tie as tie
 use Rattle.rules.proofs.patterns.rule_matches.Reads as reads
 use Rattle.rules.proofs.patterns.rule_matches.Lts as lts
 
--- src/patterns.rt:20:1
 returns : tie.Need-returns
 unfolding matches
 returns c = refl

@@ -6,55 +6,42 @@ use Rattle.rules.proofs.slices.put_rule.Tie as tie
 use Rattle.rules.proofs.slices.put_rule.Reads as reads
 use Rattle.rules.proofs.slices.put_rule.Lts as lts
 
--- src/slices.rt:36:17
 mul-care : tie.Need-mul-care
 mul-care c = search needs
 
--- src/slices.rt:36:17
 slice-write-care : tie.Need-slice-write-care
 slice-write-care c = search needs
 
--- src/slices.rt:37:17
 mul-value : tie.Need-mul-value
 mul-value c = search needs
 
--- src/slices.rt:37:17
 slice-write-value : tie.Need-slice-write-value
 slice-write-value c = search needs
 
--- src/slices.rt:38:17
 mul-decision : tie.Need-mul-decision
 mul-decision c = search needs
 
--- src/slices.rt:38:17
 slice-write-decision : tie.Need-slice-write-decision
 slice-write-decision c = search needs
 
--- src/slices.rt:29:1
 same-length : tie.Need-same-length
 same-length c = search needs
 
--- src/slices.rt:29:1
 same-length-2 : tie.Need-same-length-2
 same-length-2 c = search needs
 
--- src/slices.rt:29:1
 same-length-3 : tie.Need-same-length-3
 same-length-3 c = search needs
 
--- src/slices.rt:29:1
 returns : tie.Need-returns
 returns c = placed-yes _ _ _ _ _ (search needs) (search needs) (search needs)
 
--- src/slices.rt:29:1
 returns-2 : tie.Need-returns-2
 returns-2 c = placed-no _ _ _ _ _ (short _ _ _ _ (inr (inr (c .if3 .left))))
 
--- src/slices.rt:29:1
 returns-3 : tie.Need-returns-3
 returns-3 c = placed-no _ _ _ _ _ (short _ _ _ _ (inr (inl (c .if2 .left))))
 
--- src/slices.rt:29:1
 returns-4 : tie.Need-returns-4
 returns-4 c = placed-no _ _ _ _ _ (short _ _ _ _ (inl (c .if1 .left)))
 

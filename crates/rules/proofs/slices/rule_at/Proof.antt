@@ -5,43 +5,33 @@ use Rattle.rules.proofs.slices.rule_at.Tie as tie
 use Rattle.rules.proofs.slices.rule_at.Reads as reads
 use Rattle.rules.proofs.slices.rule_at.Lts as lts
 
--- src/slices.rt:14:27
 mul-t11 : tie.Need-mul-t11
 mul-t11 c = search needs
 
--- src/slices.rt:14:27
 shared-slice-read-t13 : tie.Need-shared-slice-read-t13
 shared-slice-read-t13 c = search needs
 
--- src/slices.rt:15:28
 mul-t14 : tie.Need-mul-t14
 mul-t14 c = search needs
 
--- src/slices.rt:15:28
 shared-slice-read-t16 : tie.Need-shared-slice-read-t16
 shared-slice-read-t16 c = search needs
 
--- src/slices.rt:16:31
 mul-t17 : tie.Need-mul-t17
 mul-t17 c = search needs
 
--- src/slices.rt:16:31
 shared-slice-read-t19 : tie.Need-shared-slice-read-t19
 shared-slice-read-t19 c = search needs
 
--- src/slices.rt:13:17
 returns : tie.Need-returns
 returns c = rule-inside _ _ _ _ (search needs) (search needs) (search needs)
 
--- src/slices.rt:7:1
 returns-2 : tie.Need-returns-2
 returns-2 c = past-decisions _ _ _ _ (c .if3 .left)
 
--- src/slices.rt:7:1
 returns-3 : tie.Need-returns-3
 returns-3 c = past-values _ _ _ _ (c .if2 .left)
 
--- src/slices.rt:7:1
 returns-4 : tie.Need-returns-4
 returns-4 c = past-cares _ _ _ _ (c .if1 .left)
 

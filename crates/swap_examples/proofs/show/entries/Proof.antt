@@ -13,39 +13,30 @@ Inv-loop places width i₀ t4 i = i ≤ width
 abbrev μ-loop : tie.MeasureT-loop
 μ-loop places width i₀ t4 i = width - i
 
--- src/show.rt:93:5
 loop-holds : tie.Need-loop-holds Inv-loop μ-loop
 loop-holds c = search needs
 
--- src/show.rt:94:14
 slice-aggregate-text : tie.Need-slice-aggregate-text Inv-loop μ-loop
 slice-aggregate-text c = search needs
 
--- src/show.rt:94:9
 text-requires : tie.Need-text-requires Inv-loop μ-loop
 text-requires c κs = search needs
 
--- src/show.rt:95:15
 element-copy-out-small : tie.Need-element-copy-out-small Inv-loop μ-loop
 element-copy-out-small c = search needs
 
--- src/show.rt:95:9
 small-requires : tie.Need-small-requires Inv-loop μ-loop
 small-requires c κs = search needs
 
--- src/show.rt:96:9
 add-i : tie.Need-add-i Inv-loop μ-loop
 add-i c = search needs
 
--- src/show.rt:93:5
 loop-less : tie.Need-loop-less Inv-loop μ-loop
 loop-less c = search needs
 
--- src/show.rt:93:5
 loop-again : tie.Need-loop-again Inv-loop μ-loop
 loop-again c = search needs
 
--- src/show.rt:89:1
 returns : tie.Need-returns Inv-loop μ-loop
 returns c = search needs
 

@@ -13,31 +13,24 @@ Inv-loop places from n₀ i₀ n i = (i ≤ 64) × (n ≤ i)
 abbrev μ-loop : tie.MeasureT-loop
 μ-loop places from n₀ i₀ n i = 64 - i
 
--- src/show.rt:106:5
 loop-holds : tie.Need-loop-holds Inv-loop μ-loop
 loop-holds c = search needs
 
--- src/show.rt:107:12
 element-copy-out-if1 : tie.Need-element-copy-out-if1 Inv-loop μ-loop
 element-copy-out-if1 c = search needs
 
--- src/show.rt:108:13
 add-n : tie.Need-add-n Inv-loop μ-loop
 add-n c = search needs
 
--- src/show.rt:110:9
 add-i : tie.Need-add-i Inv-loop μ-loop
 add-i c = search needs
 
--- src/show.rt:106:5
 loop-less : tie.Need-loop-less Inv-loop μ-loop
 loop-less c = search needs
 
--- src/show.rt:106:5
 loop-again : tie.Need-loop-again Inv-loop μ-loop
 loop-again c = ⊎-elim (λ v. omega arith) (λ v. omega arith) (c .if1 .came)
 
--- src/show.rt:101:1
 returns : tie.Need-returns Inv-loop μ-loop
 returns c = search needs
 

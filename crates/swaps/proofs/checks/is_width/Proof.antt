@@ -6,11 +6,9 @@ use Rattle.swaps.proofs.checks.is_width.Tie as tie
 use Rattle.swaps.proofs.checks.is_width.Reads as reads
 use Rattle.swaps.proofs.checks.is_width.Lts as lts
 
--- src/checks.rt:18:1
 returns : tie.Need-returns
 returns c = and-on (le-leb _ _ (c .if1 .taken))
 
--- src/checks.rt:18:1
 returns-2 : tie.Need-returns-2
 returns-2 c = lt-leb _ _ (c .if1 .left) ∙ and-off _ (lt-leb _ _ (c .if1 .left))
 

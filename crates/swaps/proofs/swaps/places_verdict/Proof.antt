@@ -8,19 +8,15 @@ use Rattle.swaps.proofs.swaps.places_verdict.Lts as lts
 use Rattle.swaps.proofs.checks.refused.Reads as refused-reads
 use Rattle.swaps.proofs.swaps.good_places.Reads as good-places-reads
 
--- src/swaps.rt:183:8
 good-places-requires : tie.Need-good-places-requires
 good-places-requires c κs = search needs
 
--- src/swaps.rt:184:9
 returns : tie.Need-returns
 returns c = sym (places-yes 64 _ (sym (c .before .good-places .ensures) ∙ c .if1 .taken))
 
--- src/swaps.rt:186:5
 refused-requires : tie.Need-refused-requires
 refused-requires c κs = search needs
 
--- src/swaps.rt:179:1
 returns-2 : tie.Need-returns-2
 returns-2 c = c .refused .ensures ∙ sym (places-no 64 _ (sym (c .before .before .good-places .ensures) ∙ c .before .if1 .left))
 

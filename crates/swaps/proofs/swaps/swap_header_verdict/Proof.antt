@@ -12,35 +12,27 @@ use Rattle.swaps.proofs.checks.refused.Reads as refused-reads
 use Rattle.swaps.proofs.checks.below.Reads as below-reads
 use Rattle.swaps.proofs.swaps.places_verdict.Reads as places-verdict-reads
 
--- src/swaps.rt:214:8
 is-width-requires : tie.Need-is-width-requires
 is-width-requires c κs = search needs
 
--- src/swaps.rt:215:12
 below-requires : tie.Need-below-requires
 below-requires c κs = width-most _ (sym (c .before .is-width .ensures) ∙ c .if1 .taken)
 
--- src/swaps.rt:216:13
 places-verdict-requires : tie.Need-places-verdict-requires
 places-verdict-requires c κs = width-most _ (sym (c .before .before .before .is-width .ensures) ∙ c .before .before .if1 .taken)
 
--- src/swaps.rt:216:13
 returns : tie.Need-returns
 returns c = c .places-verdict .ensures ∙ sym (header-nine 64 _ _ (sym (c .before .before .before .before .is-width .ensures) ∙ c .before .before .before .if1 .taken) (sym (c .before .before .below .ensures) ∙ c .before .if2 .taken))
 
--- src/swaps.rt:218:9
 refused-requires : tie.Need-refused-requires
 refused-requires c κs = search needs
 
--- src/swaps.rt:218:9
 returns-2 : tie.Need-returns-2
 returns-2 c = c .refused .ensures ∙ sym (header-six 64 (swapOf (c .before .before .before .before .before .args .places .now) (c .before .before .before .before .before .args .width)) _ (sym (c .before .before .before .before .is-width .ensures) ∙ c .before .before .before .if1 .taken) (sym (c .before .before .below .ensures) ∙ c .before .if2 .left))
 
--- src/swaps.rt:220:5
 refused-requires-2 : tie.Need-refused-requires-2
 refused-requires-2 c κs = search needs
 
--- src/swaps.rt:211:1
 returns-3 : tie.Need-returns-3
 returns-3 c = c .refused2 .ensures ∙ sym (header-one 64 (swapOf (c .before .before .before .args .places .now) (c .before .before .before .args .width)) (c .before .before .before .args .header) (sym (c .before .before .is-width .ensures) ∙ c .before .if1 .left))
 

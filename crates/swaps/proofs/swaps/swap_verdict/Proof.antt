@@ -10,23 +10,18 @@ use Rattle.swaps.proofs.checks.is_width.Reads as is-width-reads
 use Rattle.swaps.proofs.checks.refused.Reads as refused-reads
 use Rattle.swaps.proofs.swaps.places_verdict.Reads as places-verdict-reads
 
--- src/swaps.rt:193:8
 is-width-requires : tie.Need-is-width-requires
 is-width-requires c κs = search needs
 
--- src/swaps.rt:194:9
 places-verdict-requires : tie.Need-places-verdict-requires
 places-verdict-requires c κs = width-most _ (sym (c .before .is-width .ensures) ∙ c .if1 .taken)
 
--- src/swaps.rt:194:9
 returns : tie.Need-returns
 returns c = c .places-verdict .ensures ∙ sym (swap-nine 64 _ (sym (c .before .before .is-width .ensures) ∙ c .before .if1 .taken))
 
--- src/swaps.rt:196:5
 refused-requires : tie.Need-refused-requires
 refused-requires c κs = search needs
 
--- src/swaps.rt:190:1
 returns-2 : tie.Need-returns-2
 returns-2 c = c .refused .ensures ∙ sym (swap-one 64 _ (sym (c .before .before .is-width .ensures) ∙ c .before .if1 .left))
 

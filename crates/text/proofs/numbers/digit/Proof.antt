@@ -7,45 +7,36 @@ use Rattle.text.proofs.numbers.digit.Tie as tie
 use Rattle.text.proofs.numbers.digit.Reads as reads
 use Rattle.text.proofs.numbers.digit.Lts as lts
 
--- src/numbers.rt:15:9
 returns : tie.Need-returns
 unfolding digitOf
 returns c = (simp (lt-ltb _ _ (c .if1 .taken)), omega arith)
 
--- src/numbers.rt:18:9
 returns-2 : tie.Need-returns-2
 unfolding digitOf
 returns-2 c = (simp (lt-ltb _ _ (c .if2 .taken), le-ltb _ _ (c .before .if1 .left)), omega arith)
 
--- src/numbers.rt:21:9
 returns-3 : tie.Need-returns-3
 unfolding digitOf
 returns-3 c = (simp (lt-ltb _ _ (c .if3 .taken), le-ltb _ _ (c .before .before .if1 .left), le-ltb _ _ (c .before .if2 .left)), omega arith)
 
--- src/numbers.rt:24:16
 sub-result : tie.Need-sub-result
 sub-result c = search needs
 
--- src/numbers.rt:24:9
 returns-4 : tie.Need-returns-4
 unfolding digitOf
 returns-4 c = (simp (lt-ltb _ _ (c .if4 .taken), le-ltb _ _ (c .before .before .before .if1 .left), le-ltb _ _ (c .before .before .if2 .left), le-ltb _ _ (c .before .if3 .left)), omega arith)
 
--- src/numbers.rt:27:9
 returns-5 : tie.Need-returns-5
 unfolding digitOf
 returns-5 c = (simp (lt-ltb _ _ (c .if5 .taken), le-ltb _ _ (c .before .before .before .before .if1 .left), le-ltb _ _ (c .before .before .before .if2 .left), le-ltb _ _ (c .before .before .if3 .left), le-ltb _ _ (c .before .if4 .left)), omega arith)
 
--- src/numbers.rt:30:16
 sub-result-2 : tie.Need-sub-result-2
 sub-result-2 c = search needs
 
--- src/numbers.rt:30:9
 returns-6 : tie.Need-returns-6
 unfolding digitOf
 returns-6 c = (simp (lt-ltb _ _ (c .if6 .taken), le-ltb _ _ (c .before .before .before .before .before .if1 .left), le-ltb _ _ (c .before .before .before .before .if2 .left), le-ltb _ _ (c .before .before .before .if3 .left), le-ltb _ _ (c .before .before .if4 .left), le-ltb _ _ (c .before .if5 .left)), omega arith)
 
--- src/numbers.rt:10:1
 returns-7 : tie.Need-returns-7
 unfolding digitOf
 returns-7 c = (simp (le-ltb _ _ (c .before .before .before .before .before .if1 .left), le-ltb _ _ (c .before .before .before .before .if2 .left), le-ltb _ _ (c .before .before .before .if3 .left), le-ltb _ _ (c .before .before .if4 .left), le-ltb _ _ (c .before .if5 .left), le-ltb _ _ (c .if6 .left)), omega arith)

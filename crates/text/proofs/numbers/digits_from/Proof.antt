@@ -21,61 +21,48 @@ abbrev μ-loop : tie.MeasureT-loop
 still : (c : tie.Else2 Inv-loop μ-loop) → c .before .before .before .before .before .loop .n * c .before .before .before .before .before .before .before .args .base + c .before .before .digit .result < 2 ^ 64
 still c = fits-still 18446744073709551615 _ _ _ (omega arith) (omega arith) (c .if2 .left)
 
--- src/numbers.rt:42:5
 loop-holds : tie.Need-loop-holds Inv-loop μ-loop
 loop-holds c = (c .before .pre .0, omega arith, refl)
 
--- src/numbers.rt:43:23
 shared-slice-read-digit : tie.Need-shared-slice-read-digit Inv-loop μ-loop
 shared-slice-read-digit c = search needs
 
--- src/numbers.rt:43:13
 digit-requires : tie.Need-digit-requires Inv-loop μ-loop
 digit-requires c κs = search needs
 
--- src/numbers.rt:45:13
 returns : tie.Need-returns Inv-loop μ-loop
 returns c =
     let o = c .before .before .before .before .loop in
     sym (o .inv .2 ∙ no-digit _ _ _ (o .i) _ (c .before .before .before .loop-test .taken) _ (c .before .digit .ensures .0) (c .if1 .taken))
 
--- src/numbers.rt:47:13
 sub-if2 : tie.Need-sub-if2 Inv-loop μ-loop
 sub-if2 c = search needs
 
--- src/numbers.rt:47:12
 div-if2 : tie.Need-div-if2 Inv-loop μ-loop
 div-if2 c = omega arith
 
--- src/numbers.rt:48:13
 returns-2 : tie.Need-returns-2 Inv-loop μ-loop
 returns-2 c =
     let o = c .before .before .before .before .before .loop in
     sym (o .inv .2 ∙ past-limit _ _ _ (o .i) _ (c .before .before .before .before .loop-test .taken) _ (c .before .before .digit .ensures .0) (c .before .if1 .left) (too-large 18446744073709551615 _ (o .n) _ (omega arith) (omega arith) (c .if2 .taken)))
 
--- src/numbers.rt:50:13
 mul-n : tie.Need-mul-n Inv-loop μ-loop
 mul-n c = record { fits = omega (arith, still c) }
 
--- src/numbers.rt:50:13
 add-n : tie.Need-add-n Inv-loop μ-loop
 add-n c = record { fits = still c }
 
--- src/numbers.rt:51:9
 add-i : tie.Need-add-i Inv-loop μ-loop
 add-i c = search needs
 
--- src/numbers.rt:42:5
 loop-less : tie.Need-loop-less Inv-loop μ-loop
 loop-less c = search needs
 
--- src/numbers.rt:42:5
 loop-again : tie.Need-loop-again Inv-loop μ-loop
 loop-again c =
     let o = c .before .before .before .before .before .loop in
     (omega arith, still c, o .inv .2 ∙ one-more _ _ _ (o .i) _ (c .before .before .before .before .loop-test .taken) _ (c .before .before .digit .ensures .0) (c .before .if1 .left) (still c))
 
--- src/numbers.rt:36:1
 returns-3 : tie.Need-returns-3 Inv-loop μ-loop
 returns-3 c = sym (c .before .loop .inv .2 ∙ no-more _ _ _ (c .before .loop .i) _ (c .loop-test .left))
 

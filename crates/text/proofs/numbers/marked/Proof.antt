@@ -8,25 +8,20 @@ use Rattle.text.proofs.numbers.marked.Tie as tie
 use Rattle.text.proofs.numbers.marked.Reads as reads
 use Rattle.text.proofs.numbers.marked.Lts as lts
 
--- src/numbers.rt:61:16
 shared-slice-read-if2 : tie.Need-shared-slice-read-if2
 shared-slice-read-if2 c = search needs
 
--- src/numbers.rt:61:33
 shared-slice-read-result : tie.Need-shared-slice-read-result
 shared-slice-read-result c = search needs
 
--- src/numbers.rt:61:9
 returns : tie.Need-returns
 unfolding marked
 returns c = and-on (eq-eqb _ _ (c .before .if2 .taken)) ∙ and-on (lt-ltb _ _ (c .before .before .before .if1 .taken))
 
--- src/numbers.rt:61:9
 returns-2 : tie.Need-returns-2
 unfolding marked
 returns-2 c = ne-eqb _ _ (c .if2 .left) ∙ and-off _ (ne-eqb _ _ (c .if2 .left)) ∙ and-on (lt-ltb _ _ (c .before .before .if1 .taken))
 
--- src/numbers.rt:57:1
 returns-3 : tie.Need-returns-3
 unfolding marked
 returns-3 c = and-off _ (le-ltb _ _ (c .if1 .left))

@@ -10,27 +10,21 @@ use Rattle.text.proofs.numbers.read_number.Lts as lts
 use Rattle.text.proofs.numbers.digits_from.Reads as digits-from-reads
 use Rattle.text.proofs.numbers.marked.Reads as marked-reads
 
--- src/numbers.rt:71:8
 marked-requires : tie.Need-marked-requires
 marked-requires c κs = search needs
 
--- src/numbers.rt:72:9
 digits-from-requires : tie.Need-digits-from-requires
 digits-from-requires c κs = (omega (arith, marked-long _ (sym (c .before .marked .ensures) ∙ c .if1 .taken)), omega arith, omega arith)
 
--- src/numbers.rt:72:9
 returns : tie.Need-returns
 returns c = c .digits-from .ensures ∙ sym (number-hex _ _ (sym (c .before .before .marked .ensures) ∙ c .before .if1 .taken))
 
--- src/numbers.rt:75:9
 returns-2 : tie.Need-returns-2
 returns-2 c = sym (number-empty _ _ (sym (c .before .before .marked .ensures) ∙ c .before .if1 .left) (eq-eqb _ _ (c .if2 .taken)))
 
--- src/numbers.rt:77:5
 digits-from-requires-2 : tie.Need-digits-from-requires-2
 digits-from-requires-2 c κs = search needs
 
--- src/numbers.rt:68:1
 returns-3 : tie.Need-returns-3
 returns-3 c = c .digits-from2 .ensures ∙ sym (number-decimal _ _ (sym (c .before .before .before .marked .ensures) ∙ c .before .before .if1 .left) (ne-eqb _ _ (c .before .if2 .left)))
 

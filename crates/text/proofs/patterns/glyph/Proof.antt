@@ -5,39 +5,30 @@ use Rattle.text.proofs.patterns.glyph.Tie as tie
 use Rattle.text.proofs.patterns.glyph.Reads as reads
 use Rattle.text.proofs.patterns.glyph.Lts as lts
 
--- src/patterns.rt:14:17
 sub-shift : tie.Need-sub-shift
 sub-shift c = search needs
 
--- src/patterns.rt:15:22
 cast-if1 : tie.Need-cast-if1
 cast-if1 c = search needs
 
--- src/patterns.rt:15:9
 shr-if1 : tie.Need-shr-if1
 shr-if1 c = search needs
 
--- src/patterns.rt:16:9
 returns : tie.Need-returns
 returns c = glyph-star _ _ _ (c .if1 .taken)
 
--- src/patterns.rt:18:26
 cast-result : tie.Need-cast-result
 cast-result c = search needs
 
--- src/patterns.rt:18:12
 shr-result : tie.Need-shr-result
 shr-result c = search needs
 
--- src/patterns.rt:18:6
 add-result : tie.Need-add-result
 add-result c = search needs
 
--- src/patterns.rt:18:5
 cast-result-2 : tie.Need-cast-result-2
 cast-result-2 c = search needs
 
--- src/patterns.rt:10:1
 returns-2 : tie.Need-returns-2
 returns-2 c = glyph-value _ _ _ (c .before .if1 .left)
 

@@ -19,43 +19,33 @@ Inv-loop width rule out₀ k₀ out k =
 abbrev μ-loop : tie.MeasureT-loop
 μ-loop width rule out₀ k₀ out k = width - k
 
--- src/patterns.rt:25:9
 returns : tie.Need-returns Inv-loop μ-loop
 returns c = over-wide _ _ _ (c .if1 .taken)
 
--- src/patterns.rt:28:9
 returns-2 : tie.Need-returns-2 Inv-loop μ-loop
 returns-2 c = too-short _ _ _ (c .before .if1 .left) (c .if2 .taken)
 
--- src/patterns.rt:31:5
 loop-holds : tie.Need-loop-holds Inv-loop μ-loop
 loop-holds c = (omega arith, refl, text-none _ _ _)
 
--- src/patterns.rt:32:46
 add-glyph : tie.Need-add-glyph Inv-loop μ-loop
 add-glyph c = search needs
 
--- src/patterns.rt:32:27
 glyph-requires : tie.Need-glyph-requires Inv-loop μ-loop
 glyph-requires c κs = search needs
 
--- src/patterns.rt:32:13
 cast-out : tie.Need-cast-out Inv-loop μ-loop
 cast-out c = search needs
 
--- src/patterns.rt:32:9
 slice-write-out : tie.Need-slice-write-out Inv-loop μ-loop
 slice-write-out c = search needs
 
--- src/patterns.rt:33:9
 add-k : tie.Need-add-k Inv-loop μ-loop
 add-k c = search needs
 
--- src/patterns.rt:31:5
 loop-less : tie.Need-loop-less Inv-loop μ-loop
 loop-less c = search needs
 
--- src/patterns.rt:31:5
 loop-again : tie.Need-loop-again Inv-loop μ-loop
 loop-again c =
     let o = c .before .before .loop in (
@@ -64,11 +54,9 @@ loop-again c =
       ap (λ (l : List ℕ). set l (o .k) (c .glyph .result)) (o .inv .2) ∙ text-more _ _ (o .k) _ _ (omega arith) (c .glyph .ensures),
     )
 
--- src/patterns.rt:21:1
 same-length : tie.Need-same-length Inv-loop μ-loop
 same-length c = c .before .loop .inv .1
 
--- src/patterns.rt:21:1
 returns-3 : tie.Need-returns-3 Inv-loop μ-loop
 returns-3 c = all-places _ (c .before .loop .k) _ _ _ (c .before .before .before .if1 .left) (c .before .before .if2 .left) (c .before .loop .inv .0) (c .loop-test .left) (c .before .loop .inv .2)
 

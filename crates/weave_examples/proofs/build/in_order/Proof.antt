@@ -16,39 +16,30 @@ Inv-loop care₀ value₀ decision₀ n care-word i₀ care value decision i =
 abbrev μ-loop : tie.MeasureT-loop
 μ-loop care₀ value₀ decision₀ n care-word i₀ care value decision i = n - i
 
--- src/build.rt:15:5
 loop-holds : tie.Need-loop-holds Inv-loop μ-loop
 loop-holds c = (search needs, refl, refl, refl)
 
--- src/build.rt:16:9
 put-rule-requires : tie.Need-put-rule-requires Inv-loop μ-loop
 put-rule-requires c κs = search needs
 
--- src/build.rt:27:9
 add-i : tie.Need-add-i Inv-loop μ-loop
 add-i c = search needs
 
--- src/build.rt:15:5
 loop-less : tie.Need-loop-less Inv-loop μ-loop
 loop-less c = search needs
 
--- src/build.rt:15:5
 loop-again : tie.Need-loop-again Inv-loop μ-loop
 loop-again c = (search needs, search needs, search needs, search needs)
 
--- src/build.rt:7:1
 same-length : tie.Need-same-length Inv-loop μ-loop
 same-length c = search needs
 
--- src/build.rt:7:1
 same-length-2 : tie.Need-same-length-2 Inv-loop μ-loop
 same-length-2 c = search needs
 
--- src/build.rt:7:1
 same-length-3 : tie.Need-same-length-3 Inv-loop μ-loop
 same-length-3 c = search needs
 
--- src/build.rt:7:1
 returns : tie.Need-returns Inv-loop μ-loop
 returns c = search needs
 

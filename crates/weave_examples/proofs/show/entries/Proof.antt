@@ -15,27 +15,21 @@ Inv-loop care value decision n i₀ i = i ≤ n
 abbrev μ-loop : tie.MeasureT-loop
 μ-loop care value decision n i₀ i = n - i
 
--- src/show.rt:65:5
 loop-holds : tie.Need-loop-holds Inv-loop μ-loop
 loop-holds c = search needs
 
--- src/show.rt:66:9
 entry-requires : tie.Need-entry-requires Inv-loop μ-loop
 entry-requires c κs = search needs
 
--- src/show.rt:67:9
 add-i : tie.Need-add-i Inv-loop μ-loop
 add-i c = search needs
 
--- src/show.rt:65:5
 loop-less : tie.Need-loop-less Inv-loop μ-loop
 loop-less c = search needs
 
--- src/show.rt:65:5
 loop-again : tie.Need-loop-again Inv-loop μ-loop
 loop-again c = search needs
 
--- src/show.rt:63:1
 returns : tie.Need-returns Inv-loop μ-loop
 returns c = search needs
 

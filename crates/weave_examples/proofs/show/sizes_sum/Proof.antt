@@ -17,55 +17,42 @@ Inv-loop all total₀ i₀ t4 t5 total i = i ≤ length all
 abbrev μ-loop : tie.MeasureT-loop
 μ-loop all total₀ i₀ t4 t5 total i = length all - i
 
--- src/show.rt:117:5
 loop-holds : tie.Need-loop-holds Inv-loop μ-loop
 loop-holds c = search needs
 
--- src/show.rt:118:33
 mul-add-size : tie.Need-mul-add-size Inv-loop μ-loop
 mul-add-size c = search needs
 
--- src/show.rt:118:33
 shared-slice-read-add-size : tie.Need-shared-slice-read-add-size Inv-loop μ-loop
 shared-slice-read-add-size c = search needs
 
--- src/show.rt:118:9
 add-size-requires : tie.Need-add-size-requires Inv-loop μ-loop
 add-size-requires c κs = search needs
 
--- src/show.rt:119:9
 add-i : tie.Need-add-i Inv-loop μ-loop
 add-i c = search needs
 
--- src/show.rt:117:5
 loop-less : tie.Need-loop-less Inv-loop μ-loop
 loop-less c = search needs
 
--- src/show.rt:117:5
 loop-again : tie.Need-loop-again Inv-loop μ-loop
 loop-again c = search needs
 
--- src/show.rt:121:10
 slice-aggregate-text : tie.Need-slice-aggregate-text Inv-loop μ-loop
 slice-aggregate-text c = search needs
 
--- src/show.rt:121:5
 text-requires : tie.Need-text-requires Inv-loop μ-loop
 text-requires c κs = search needs
 
--- src/show.rt:122:5
 number-requires : tie.Need-number-requires Inv-loop μ-loop
 number-requires c κs = search needs
 
--- src/show.rt:123:10
 slice-aggregate-text-2 : tie.Need-slice-aggregate-text-2 Inv-loop μ-loop
 slice-aggregate-text-2 c = search needs
 
--- src/show.rt:123:5
 text-requires-2 : tie.Need-text-requires-2 Inv-loop μ-loop
 text-requires-2 c κs = search needs
 
--- src/show.rt:114:1
 returns : tie.Need-returns Inv-loop μ-loop
 returns c = search needs
 

@@ -18,51 +18,39 @@ Inv-loop care value decision total₀ i₀ t6 t7 total i = i ≤ length care
 abbrev μ-loop : tie.MeasureT-loop
 μ-loop care value decision total₀ i₀ t6 t7 total i = length care - i
 
--- src/show.rt:104:5
 loop-holds : tie.Need-loop-holds Inv-loop μ-loop
 loop-holds c = search needs
 
--- src/show.rt:105:33
 rule-at-requires : tie.Need-rule-at-requires Inv-loop μ-loop
 rule-at-requires c κs = search needs
 
--- src/show.rt:105:9
 add-rule-requires : tie.Need-add-rule-requires Inv-loop μ-loop
 add-rule-requires c κs = search needs
 
--- src/show.rt:106:9
 add-i : tie.Need-add-i Inv-loop μ-loop
 add-i c = search needs
 
--- src/show.rt:104:5
 loop-less : tie.Need-loop-less Inv-loop μ-loop
 loop-less c = search needs
 
--- src/show.rt:104:5
 loop-again : tie.Need-loop-again Inv-loop μ-loop
 loop-again c = search needs
 
--- src/show.rt:108:10
 slice-aggregate-text : tie.Need-slice-aggregate-text Inv-loop μ-loop
 slice-aggregate-text c = search needs
 
--- src/show.rt:108:5
 text-requires : tie.Need-text-requires Inv-loop μ-loop
 text-requires c κs = search needs
 
--- src/show.rt:109:5
 number-requires : tie.Need-number-requires Inv-loop μ-loop
 number-requires c κs = search needs
 
--- src/show.rt:110:10
 slice-aggregate-text-2 : tie.Need-slice-aggregate-text-2 Inv-loop μ-loop
 slice-aggregate-text-2 c = search needs
 
--- src/show.rt:110:5
 text-requires-2 : tie.Need-text-requires-2 Inv-loop μ-loop
 text-requires-2 c κs = search needs
 
--- src/show.rt:101:1
 returns : tie.Need-returns Inv-loop μ-loop
 returns c = search needs
 

@@ -28,39 +28,30 @@ rs c = rulesOf (c .args .care .now) (c .args .value .now) (c .args .decision .no
 size : (c : tie.Start Inv-loop μ-loop) → length (rs c) ≡ length (c .args .care .now)
 size c = rules-length _ _ _ (c .pre .0)
 
--- src/cutting.rt:74:5
 loop-holds : tie.Need-loop-holds Inv-loop μ-loop
 loop-holds c = (refl, sized-none _ _)
 
--- src/cutting.rt:75:13
 run-end-requires : tie.Need-run-end-requires Inv-loop μ-loop
 run-end-requires c κs = (search needs, search needs)
 
--- src/cutting.rt:76:22
 sub-sizes : tie.Need-sub-sizes Inv-loop μ-loop
 sub-sizes c = omega (arith, c .run-end .ensures .later)
 
--- src/cutting.rt:76:21
 cast-sizes : tie.Need-cast-sizes Inv-loop μ-loop
 cast-sizes c = omega (arith, c .run-end .ensures .inside, size (c .before .before .before .before .before .before .before), c .before .before .before .before .before .before .before .pre .1 .0)
 
--- src/cutting.rt:76:9
 mul-sizes : tie.Need-mul-sizes Inv-loop μ-loop
 mul-sizes c = omega (arith, c .before .before .loop .inv .1 .behind, size (c .before .before .before .before .before .before .before), c .before .before .before .before .before .before .before .pre .1 .0)
 
--- src/cutting.rt:76:9
 slice-write-sizes : tie.Need-slice-write-sizes Inv-loop μ-loop
 slice-write-sizes c = omega (arith, c .before .before .loop .inv .0, c .before .before .loop .inv .1 .behind, c .before .loop-test .taken, c .before .before .before .before .before .before .before .pre .1 .1)
 
--- src/cutting.rt:77:9
 add-at : tie.Need-add-at Inv-loop μ-loop
 add-at c = omega (arith, c .before .before .loop .inv .1 .behind, c .before .loop-test .taken, c .before .before .before .before .before .before .before .pre .1 .0)
 
--- src/cutting.rt:74:5
 loop-less : tie.Need-loop-less Inv-loop μ-loop
 loop-less c = omega (arith, c .run-end .ensures .later, c .before .loop-test .taken)
 
--- src/cutting.rt:74:5
 loop-again : tie.Need-loop-again Inv-loop μ-loop
 loop-again c =
     let o = c .before .before .loop in
@@ -68,18 +59,15 @@ loop-again c =
     let room : length (rs s) ≤ length (o .sizes) = omega (arith, size s, o .inv .0, s .pre .1 .1) in
     (search needs, sized-more _ _ _ _ _ _ (o .inv .1) (c .run-end .ensures) room)
 
--- src/cutting.rt:80:5
 clear-sizes-requires : tie.Need-clear-sizes-requires Inv-loop μ-loop
 clear-sizes-requires c κs =
     let o = c .before .before .loop in
     let s = c .before .before .before .before .before .before .before in
     (omega (arith, o .inv .1 .behind, o .inv .1 .inside, size s), omega (arith, o .inv .0, o .inv .1 .behind, o .inv .1 .inside, size s, s .pre .1 .1))
 
--- src/cutting.rt:65:1
 same-length : tie.Need-same-length Inv-loop μ-loop
 same-length c = search needs
 
--- src/cutting.rt:65:1
 returns : tie.Need-returns Inv-loop μ-loop
 returns c =
     let o = c .before .before .before .before .before .loop in

@@ -26,44 +26,36 @@ rs c = rulesOf (c .args .care .now) (c .args .value .now) (c .args .decision .no
 size : (c : tie.Start Inv-loop μ-loop) → length (rs c) ≡ length (c .args .care .now)
 size c = rules-length _ _ _ (c .pre .0)
 
--- src/cutting.rt:42:17
 add-k : tie.Need-add-k Inv-loop μ-loop
 add-k c = search needs
 
--- src/cutting.rt:43:5
 loop-holds : tie.Need-loop-holds Inv-loop μ-loop
 loop-holds c =
     let s = c .before .before .before in
     let h : s .args .from < length (rs s) = omega (arith, size s) in
     (search needs, search needs, running-one _ _ h)
 
--- src/cutting.rt:44:12
 crossed-requires : tie.Need-crossed-requires Inv-loop μ-loop
 crossed-requires c κs = (c .before .before .before .before .before .pre .0, (search needs, search needs))
 
--- src/cutting.rt:45:13
 returns : tie.Need-returns Inv-loop μ-loop
 returns c =
     let o = c .before .before .before .loop in
     let h : o .k < length (rs (c .before .before .before .before .before .before .before)) = omega (arith, size (c .before .before .before .before .before .before .before)) in
     running-cut _ _ _ _ (o .inv .2) (c .before .crossed .ensures) (c .if1 .taken) (o .inv .0) h
 
--- src/cutting.rt:47:9
 add-k-2 : tie.Need-add-k-2 Inv-loop μ-loop
 add-k-2 c = search needs
 
--- src/cutting.rt:43:5
 loop-less : tie.Need-loop-less Inv-loop μ-loop
 loop-less c = search needs
 
--- src/cutting.rt:43:5
 loop-again : tie.Need-loop-again Inv-loop μ-loop
 loop-again c =
     let o = c .before .before .before .loop in
     let h : o .k < length (rs (c .before .before .before .before .before .before .before)) = omega (arith, size (c .before .before .before .before .before .before .before)) in
     (search needs, search needs, running-more _ _ _ _ (o .inv .2) (c .before .crossed .ensures) (c .if1 .left) (omega arith) h)
 
--- src/cutting.rt:37:1
 returns-2 : tie.Need-returns-2 Inv-loop μ-loop
 returns-2 c =
     let o = c .before .loop in

@@ -21,35 +21,27 @@ Inv-loop care₀ value₀ decision₀ j end k₀ care value decision k =
 abbrev μ-loop : tie.MeasureT-loop
 μ-loop care₀ value₀ decision₀ j end k₀ care value decision k = end - k
 
--- src/merging.rt:73:5
 loop-holds : tie.Need-loop-holds Inv-loop μ-loop
 loop-holds c = (search needs, search needs, record { cares = refl; values = refl; decisions = refl }, shifted-none _ _)
 
--- src/merging.rt:73:11
 add-loop : tie.Need-add-loop Inv-loop μ-loop
 add-loop c = search needs
 
--- src/merging.rt:74:48
 add-rule-at : tie.Need-add-rule-at Inv-loop μ-loop
 add-rule-at c = search needs
 
--- src/merging.rt:74:13
 rule-at-requires : tie.Need-rule-at-requires Inv-loop μ-loop
 rule-at-requires c κs = search needs
 
--- src/merging.rt:75:9
 put-rule-requires : tie.Need-put-rule-requires Inv-loop μ-loop
 put-rule-requires c κs = search needs
 
--- src/merging.rt:76:9
 add-k : tie.Need-add-k Inv-loop μ-loop
 add-k c = search needs
 
--- src/merging.rt:73:5
 loop-less : tie.Need-loop-less Inv-loop μ-loop
 loop-less c = search needs
 
--- src/merging.rt:73:5
 loop-again : tie.Need-loop-again Inv-loop μ-loop
 loop-again c =
     let o = c .before .before .before .before .before .before .before .before .before .before .before .before .before .before .before .loop in
@@ -64,19 +56,15 @@ loop-again c =
           (placed-rules _ _ _ _ _ _ _ _ (c .before .before .before .before .before .before .put-rule .ensures)),
     )
 
--- src/merging.rt:66:1
 same-length : tie.Need-same-length Inv-loop μ-loop
 same-length c = search needs
 
--- src/merging.rt:66:1
 same-length-2 : tie.Need-same-length-2 Inv-loop μ-loop
 same-length-2 c = search needs
 
--- src/merging.rt:66:1
 same-length-3 : tie.Need-same-length-3 Inv-loop μ-loop
 same-length-3 c = search needs
 
--- src/merging.rt:66:1
 returns : tie.Need-returns Inv-loop μ-loop
 returns c = shifted-closed _ _ _ _ _ (omega arith) (c .before .loop .inv .3)
 

@@ -46,61 +46,47 @@ row-to c =
     let e : c .before .before .loop .j ≡ c .before .before .before .untried .result .stop = omega (arith, c .if1 .left, c .before .before .loop .inv .1) in
     row-stop _ _ _ _ _ _ _ _ (c .before .before .before .before .before .before .search .inv .0) (c .before .before .before .before .before .before .before .before .before .before .pre .1 .1) (c .before .before .before .untried .ensures) (subst (NoRow _ _) e (c .before .before .loop .inv .2))
 
--- src/merging.rt:92:5
 search-holds : tie.Need-search-holds Inv-loop μ-loop Inv-search μ-search
 search-holds c = (search needs, search needs, rows-none _ _ _, refl)
 
--- src/merging.rt:93:13
 rule-at-requires : tie.Need-rule-at-requires Inv-loop μ-loop Inv-search μ-search
 rule-at-requires c κs = search needs
 
--- src/merging.rt:94:13
 untried-requires : tie.Need-untried-requires Inv-loop μ-loop Inv-search μ-search
 untried-requires c κs = let h : c .before .before .before .before .before .before .args .from < c .before .before .before .before .before .before .args .to = omega arith in (search needs, c .before .before .before .before .before .before .pre .1 .1 .some h)
 
--- src/merging.rt:96:9
 loop-holds : tie.Need-loop-holds Inv-loop μ-loop Inv-search μ-search
 loop-holds c =
     let u = c .untried .ensures in
     (u .later, u .order, row-start _ _ _ _ _ _ _ _ (c .before .before .before .search .inv .0) (c .before .before .before .before .before .before .before .pre .1 .1) u, c .before .before .before .search .inv .3)
 
--- src/merging.rt:97:29
 rule-at-requires-2 : tie.Need-rule-at-requires-2 Inv-loop μ-loop Inv-search μ-search
 rule-at-requires-2 c κs = search needs
 
--- src/merging.rt:97:16
 mergeable-requires : tie.Need-mergeable-requires Inv-loop μ-loop Inv-search μ-search
 mergeable-requires c κs = search needs
 
--- src/merging.rt:101:13
 add-j : tie.Need-add-j Inv-loop μ-loop Inv-search μ-search
 add-j c = omega (arith, c .before .before .before .before .before .before .untried .ensures .inside)
 
--- src/merging.rt:96:9
 loop-less : tie.Need-loop-less Inv-loop μ-loop Inv-search μ-search
 loop-less c = search needs
 
--- src/merging.rt:96:9
 loop-again : tie.Need-loop-again Inv-loop μ-loop Inv-search μ-search
 loop-again c = (search needs, search needs, row-more _ _ _ (c .before .before .before .before .before .loop .inv .2) (same (c .before) ∙ c .if2 .left), c .before .before .before .before .before .loop .inv .3)
 
--- src/merging.rt:103:9
 add-i : tie.Need-add-i Inv-loop μ-loop Inv-search μ-search
 add-i c = search needs
 
--- src/merging.rt:92:5
 search-less : tie.Need-search-less Inv-loop μ-loop Inv-search μ-search
 search-less c = search needs
 
--- src/merging.rt:92:5
 search-again : tie.Need-search-again Inv-loop μ-loop Inv-search μ-search
 search-again c = (search needs, search needs, rows-more _ _ _ _ (c .before .before .before .before .before .before .search .inv .2) (row-to c), c .before .before .loop .inv .3)
 
--- src/merging.rt:76:1
 returns : tie.Need-returns Inv-loop μ-loop Inv-search μ-search
 returns c = found-none _ _ _ _ _ (c .before .search .inv .2) (c .before .search .inv .3) (omega arith)
 
--- src/merging.rt:76:1
 returns-2 : tie.Need-returns-2 Inv-loop μ-loop Inv-search μ-search
 returns-2 c =
     record {

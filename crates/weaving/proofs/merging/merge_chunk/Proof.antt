@@ -35,57 +35,44 @@ fits c =
 abbrev cur : tie.At-loop Inv-loop μ-loop → List Rule
 cur c = rulesOf (c .loop .care) (c .loop .value) (c .loop .decision)
 
--- src/merging.rt:172:5
 loop-holds : tie.Need-loop-holds Inv-loop μ-loop
 loop-holds c = (record { cares = refl; values = refl; decisions = refl }, merging-none _ _ _ (search needs), tried-none _ _ _)
 
--- src/merging.rt:173:31
 find-pair-requires : tie.Need-find-pair-requires Inv-loop μ-loop
 find-pair-requires c κs = (search needs, (search needs, c .before .before .before .loop .inv .2))
 
--- src/merging.rt:173:23
 enum-known-i : tie.Need-enum-known-i Inv-loop μ-loop
 enum-known-i c = search needs
 
--- src/merging.rt:174:13
 enum-told : tie.Need-enum-told Inv-loop μ-loop
 enum-told c = search needs
 
--- src/merging.rt:174:13
 same-length : tie.Need-same-length Inv-loop μ-loop
 same-length c = search needs
 
--- src/merging.rt:174:13
 same-length-2 : tie.Need-same-length-2 Inv-loop μ-loop
 same-length-2 c = search needs
 
--- src/merging.rt:174:13
 same-length-3 : tie.Need-same-length-3 Inv-loop μ-loop
 same-length-3 c = search needs
 
--- src/merging.rt:174:13
 returns : tie.Need-returns Inv-loop μ-loop
 returns c = merging-done _ _ _ _ _ (fits (c .before .before .before .before .before .before)) (c .before .before .before .before .before .before .loop .inv .1) (none-of (cur (c .before .before .before .before .before .before)) _ _ _ (c .before .before .find-pair .ensures) (c .enum-told .given .1))
 
--- src/merging.rt:176:9
 merge-pair-requires : tie.Need-merge-pair-requires Inv-loop μ-loop
 merge-pair-requires c κs =
     let p = pair-of (cur (c .before .before .before .before .before .before .before .before .before .before)) _ _ _ _ _ (c .before .before .before .before .before .before .find-pair .ensures) (c .before .before .before .before .i .given .1) in
     (search needs, (p .later, p .inside, search needs))
 
--- src/merging.rt:177:9
 sub-end : tie.Need-sub-end Inv-loop μ-loop
 sub-end c = let p = pair-of (cur (c .before .before .before .before .before .before .before .before .before .before .before .before .before .before .before .before .before)) _ _ _ _ _ (c .before .before .before .before .before .before .before .before .before .before .before .before .before .find-pair .ensures) (c .before .before .before .before .before .before .before .before .before .before .before .i .given .1) in omega (arith, p .inside)
 
--- src/merging.rt:179:9
 still-done-requires : tie.Need-still-done-requires Inv-loop μ-loop
 still-done-requires c κs = search needs
 
--- src/merging.rt:172:5
 loop-less : tie.Need-loop-less Inv-loop μ-loop
 loop-less c = let p = pair-of (cur (c .before .before .before .before .before .before .before .before .before .before .before .before .before .before .before .before .before .before)) _ _ _ _ _ (c .before .before .before .before .before .before .before .before .before .before .before .before .before .before .find-pair .ensures) (c .before .before .before .before .before .before .before .before .before .before .before .before .i .given .1) in omega (arith, p .inside)
 
--- src/merging.rt:172:5
 loop-again : tie.Need-loop-again Inv-loop μ-loop
 loop-again c =
     let p = pair-of (cur (c .before .before .before .before .before .before .before .before .before .before .before .before .before .before .before .before .before .before)) _ _ _ _ _ (c .before .before .before .before .before .before .before .before .before .before .before .before .before .before .find-pair .ensures) (c .before .before .before .before .before .before .before .before .before .before .before .before .i .given .1) in

@@ -13,23 +13,18 @@ use Rattle.rules.proofs.rule_at.Reads as rule-at-reads
 use Rattle.weaving.proofs.merging.close_gap.Reads as close-gap-reads
 use Rattle.weaving.proofs.merging.merged.Reads as merged-reads
 
--- src/merging.rt:94:9
 rule-at-requires : tie.Need-rule-at-requires
 rule-at-requires c κs = search needs
 
--- src/merging.rt:95:9
 rule-at-requires-2 : tie.Need-rule-at-requires-2
 rule-at-requires-2 c κs = search needs
 
--- src/merging.rt:96:40
 merged-requires : tie.Need-merged-requires
 merged-requires c κs = search needs
 
--- src/merging.rt:96:5
 put-rule-requires : tie.Need-put-rule-requires
 put-rule-requires c κs = search needs
 
--- src/merging.rt:97:5
 close-gap-requires : tie.Need-close-gap-requires
 close-gap-requires c κs =
     let s = c .before .before .before .before .before .before .before .before .before .before .before .before .before .before .before .before .before .before .before .before .before .before .before .before .before in
@@ -38,19 +33,15 @@ close-gap-requires c κs =
       (s .pre .1 .1, omega (arith, kept .cares, s .pre .1 .2)),
     )
 
--- src/merging.rt:81:1
 same-length : tie.Need-same-length
 same-length c = search needs
 
--- src/merging.rt:81:1
 same-length-2 : tie.Need-same-length-2
 same-length-2 c = search needs
 
--- src/merging.rt:81:1
 same-length-3 : tie.Need-same-length-3
 same-length-3 c = search needs
 
--- src/merging.rt:81:1
 returns : tie.Need-returns
 returns c =
     closed-pair _ _ _ _ _ _ _ _ _ (c .before .before .before .before .before .before .before .before .before .before .before .before .before .before .before .before .before .before .before .before .before .before .before .before .before .rule-at .ensures) (c .before .before .before .before .before .before .before .before .before .before .before .before .before .before .before .before .before .before .before .before .before .rule-at2 .ensures) (c .before .before .before .before .before .before .before .before .before .before .before .before .before .before .before .before .before .merged .ensures)

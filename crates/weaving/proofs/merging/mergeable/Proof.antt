@@ -10,17 +10,14 @@ use Rattle.weaving.proofs.merging.mergeable.Tie as tie
 use Rattle.weaving.proofs.merging.mergeable.Reads as reads
 use Rattle.weaving.proofs.merging.mergeable.Lts as lts
 
--- src/merging.rt:17:9
 returns : tie.Need-returns
 unfolding mergeable
 returns c = and-off _ (ne-eqb _ _ (c .if1 .taken))
 
--- src/merging.rt:20:9
 returns-2 : tie.Need-returns-2
 unfolding mergeable
 returns-2 c = and-off _ (ne-eqb _ _ (c .if2 .taken)) ∙ and-on (eq-eqb _ _ (c .before .before .before .if1 .left))
 
--- src/merging.rt:13:1
 returns-3 : tie.Need-returns-3
 unfolding mergeable
 returns-3 c =

@@ -5,7 +5,6 @@ use Rattle.weaving.proofs.merging.merged.Tie as tie
 use Rattle.weaving.proofs.merging.merged.Reads as reads
 use Rattle.weaving.proofs.merging.merged.Lts as lts
 
--- src/merging.rt:26:1
 returns : tie.Need-returns
 unfolding merged
 returns c = refl

@@ -13,15 +13,12 @@ use Rattle.swaps.proofs.swaps.Swap.apply.Lts as lts
 use Rattle.swaps.proofs.swaps.moved_word.Reads as moved-word-reads
 use Rattle.swaps.proofs.swaps.swap_header_verdict.Reads as swap-header-verdict-reads
 
--- src/swaps.rt:282:13
 swap-header-verdict-requires : tie.Need-swap-header-verdict-requires
 swap-header-verdict-requires c κs = search needs
 
--- src/swaps.rt:283:33
 enum-known-v : tie.Need-enum-known-v
 enum-known-v c = search needs
 
--- src/swaps.rt:284:13
 returns : tie.Need-returns
 unfolding appliedHeader
 returns c = sym (refused-stop _ _ _ (c .before .before .before .swap-header-verdict .ensures) (c .before .v .given .1))
@@ -29,11 +26,9 @@ returns c = sym (refused-stop _ _ _ (c .before .before .before .swap-header-verd
 enum-told : tie.Need-enum-told
 enum-told c = search needs
 
--- src/swaps.rt:286:35
 moved-word-requires : tie.Need-moved-word-requires
 moved-word-requires c κs = let g = header-whole 64 _ _ (verdict-passed _ _ (c .before .before .before .swap-header-verdict .ensures) (c .before .enum-told .given .1)) .0 in (g .most, g .places)
 
--- src/swaps.rt:276:5
 returns-2 : tie.Need-returns-2
 unfolding appliedHeader
 returns-2 c = ap (λ (n : ℕ). Gives (n ∷ [])) (c .moved-word .ensures) ∙ sym (fine-next _ _ _ (c .before .before .before .before .swap-header-verdict .ensures) (c .before .before .enum-told .given .1))

@@ -14,15 +14,12 @@ use Rattle.swaps.proofs.swaps.Swap.apply_rule.Lts as lts
 use Rattle.swaps.proofs.swaps.moved_word.Reads as moved-word-reads
 use Rattle.swaps.proofs.swaps.swap_rule_verdict.Reads as swap-rule-verdict-reads
 
--- src/swaps.rt:262:13
 swap-rule-verdict-requires : tie.Need-swap-rule-verdict-requires
 swap-rule-verdict-requires c κs = search needs
 
--- src/swaps.rt:263:33
 enum-known-v : tie.Need-enum-known-v
 enum-known-v c = search needs
 
--- src/swaps.rt:264:13
 returns : tie.Need-returns
 unfolding appliedRule
 returns c = sym (refused-stop _ _ _ (c .before .before .before .swap-rule-verdict .ensures) (c .before .v .given .1))
@@ -30,15 +27,12 @@ returns c = sym (refused-stop _ _ _ (c .before .before .before .swap-rule-verdic
 enum-told : tie.Need-enum-told
 enum-told c = search needs
 
--- src/swaps.rt:266:13
 moved-word-requires : tie.Need-moved-word-requires
 moved-word-requires c κs = let g = rule-whole 64 _ _ (verdict-passed _ _ (c .before .before .before .swap-rule-verdict .ensures) (c .before .enum-told .given .1)) .0 in (g .most, g .places)
 
--- src/swaps.rt:267:13
 moved-word-requires-2 : tie.Need-moved-word-requires-2
 moved-word-requires-2 c κs = let g = rule-whole 64 _ _ (verdict-passed _ _ (c .before .before .before .before .before .swap-rule-verdict .ensures) (c .before .before .before .enum-told .given .1)) .0 in (g .most, g .places)
 
--- src/swaps.rt:257:5
 returns-2 : tie.Need-returns-2
 unfolding appliedRule movedRule
 returns-2 c = ap₂ (λ (m n : ℕ). Gives (m ∷ n ∷ c .before .before .before .before .before .before .before .before .before .args .rule .decision ∷ [])) (c .before .before .moved-word .ensures) (c .moved-word2 .ensures) ∙ sym (fine-next _ _ _ (c .before .before .before .before .before .before .swap-rule-verdict .ensures) (c .before .before .before .before .enum-told .given .1))

@@ -12,34 +12,27 @@ use Rattle.swaps.proofs.swaps.composed_places.Reads as composed-places-
 use Rattle.swaps.proofs.swaps.refused_swap.Reads as refused-swap-reads
 use Rattle.swaps.proofs.swaps.swaps_verdict.Reads as swaps-verdict-reads
 
--- src/swaps.rt:332:13
 swaps-verdict-requires : tie.Need-swaps-verdict-requires
 swaps-verdict-requires c κs = search needs
 
--- src/swaps.rt:333:33
 enum-known-v : tie.Need-enum-known-v
 enum-known-v c = search needs
 
--- src/swaps.rt:334:13
 refused-swap-requires : tie.Need-refused-swap-requires
 refused-swap-requires c κs = search needs
 
--- src/swaps.rt:334:13
 returns : tie.Need-returns
 returns c = given-refused 64 _ _ _ (c .before .before .before .before .swaps-verdict .ensures) _ (c .before .before .v .given .1) (c .refused-swap .ensures)
 
 enum-told : tie.Need-enum-told
 enum-told c = search needs
 
--- src/swaps.rt:336:53
 cast-composed-places : tie.Need-cast-composed-places
 cast-composed-places c = search needs
 
--- src/swaps.rt:336:13
 composed-places-requires : tie.Need-composed-places-requires
 composed-places-requires c κs = let g = swaps-together 64 _ _ (verdict-passed _ _ (c .before .before .before .before .swaps-verdict .ensures) (c .before .before .enum-told .given .1)) in (g .first .most, together-good 64 _ _ g)
 
--- src/swaps.rt:325:5
 returns-2 : tie.Need-returns-2
 unfolding joined
 returns-2 c = given-fine 64 _ _ _ (c .before .before .before .before .before .swaps-verdict .ensures) _ _ (c .before .before .before .enum-told .given .1) (ap (λ (l : List ℕ). swapOf l (c .before .before .before .before .before .before .before .before .before .before .args .self .width)) (c .composed-places .ensures))

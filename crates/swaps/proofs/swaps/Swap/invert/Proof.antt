@@ -12,34 +12,27 @@ use Rattle.swaps.proofs.swaps.inverse_places.Reads as inverse-places-re
 use Rattle.swaps.proofs.swaps.refused_swap.Reads as refused-swap-reads
 use Rattle.swaps.proofs.swaps.swap_verdict.Reads as swap-verdict-reads
 
--- src/swaps.rt:310:13
 swap-verdict-requires : tie.Need-swap-verdict-requires
 swap-verdict-requires c κs = search needs
 
--- src/swaps.rt:311:33
 enum-known-v : tie.Need-enum-known-v
 enum-known-v c = search needs
 
--- src/swaps.rt:312:13
 refused-swap-requires : tie.Need-refused-swap-requires
 refused-swap-requires c κs = search needs
 
--- src/swaps.rt:312:13
 returns : tie.Need-returns
 returns c = given-refused 64 _ _ _ (c .before .before .before .before .swap-verdict .ensures) _ (c .before .before .v .given .1) (c .refused-swap .ensures)
 
 enum-told : tie.Need-enum-told
 enum-told c = search needs
 
--- src/swaps.rt:314:44
 cast-inverse-places : tie.Need-cast-inverse-places
 cast-inverse-places c = search needs
 
--- src/swaps.rt:314:13
 inverse-places-requires : tie.Need-inverse-places-requires
 inverse-places-requires c κs = swap-whole 64 _ (verdict-passed _ _ (c .before .before .before .swap-verdict .ensures) (c .before .enum-told .given .1)) .most
 
--- src/swaps.rt:305:5
 returns-2 : tie.Need-returns-2
 unfolding inverted
 returns-2 c = given-fine 64 _ _ _ (c .before .before .before .before .swap-verdict .ensures) _ _ (c .before .before .enum-told .given .1) (ap (λ (l : List ℕ). swapOf l (c .before .before .before .before .before .before .before .args .self .width)) (c .inverse-places .ensures))

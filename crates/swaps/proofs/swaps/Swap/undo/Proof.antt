@@ -16,15 +16,12 @@ use Rattle.swaps.proofs.swaps.inverse_places.Reads as inverse-places-re
 use Rattle.swaps.proofs.swaps.moved_word.Reads as moved-word-reads
 use Rattle.swaps.proofs.swaps.swap_header_verdict.Reads as swap-header-verdict-reads
 
--- src/swaps.rt:296:13
 swap-header-verdict-requires : tie.Need-swap-header-verdict-requires
 swap-header-verdict-requires c κs = search needs
 
--- src/swaps.rt:297:33
 enum-known-v : tie.Need-enum-known-v
 enum-known-v c = search needs
 
--- src/swaps.rt:298:13
 returns : tie.Need-returns
 unfolding undoneHeader
 returns c = sym (refused-stop _ _ _ (c .before .before .before .swap-header-verdict .ensures) (c .before .v .given .1))
@@ -32,19 +29,15 @@ returns c = sym (refused-stop _ _ _ (c .before .before .before .swap-header-verd
 enum-told : tie.Need-enum-told
 enum-told c = search needs
 
--- src/swaps.rt:300:44
 cast-inverse-places : tie.Need-cast-inverse-places
 cast-inverse-places c = search needs
 
--- src/swaps.rt:300:20
 inverse-places-requires : tie.Need-inverse-places-requires
 inverse-places-requires c κs = header-whole 64 _ _ (verdict-passed _ _ (c .before .before .before .swap-header-verdict .ensures) (c .before .enum-told .given .1)) .0 .most
 
--- src/swaps.rt:301:29
 moved-word-requires : tie.Need-moved-word-requires
 moved-word-requires c κs = let g = header-whole 64 _ _ (verdict-passed _ _ (c .before .before .before .before .before .swap-header-verdict .ensures) (c .before .before .before .enum-told .given .1)) .0 in (g .most, ap (good 64 _) (c .before .inverse-places .ensures) ∙ inverse-good 64 _ _ (g .most) (g .places))
 
--- src/swaps.rt:290:5
 returns-2 : tie.Need-returns-2
 unfolding undoneHeader
 returns-2 c = ap (λ (n : ℕ). Gives (n ∷ [])) (c .moved-word .ensures ∙ ap (λ (l : List ℕ). moved (c .before .before .before .before .before .before .before .before .before .args .self .width) l (c .before .before .before .before .before .before .before .before .before .args .header .0)) (c .before .before .inverse-places .ensures)) ∙ sym (fine-next _ _ _ (c .before .before .before .before .before .before .swap-header-verdict .ensures) (c .before .before .before .before .enum-told .given .1))
