@@ -8,7 +8,7 @@ ghost use lib.ListN.{length};
 ghost use lib.Bits.{bitAnd};
 ghost use Rattle.compare.specs.EngineSets.{Ready, member, answerOf, Within};
 ghost use Rattle.compare.specs.EngineCubes.{Block, Constant};
-ghost use Rattle.compare.specs.Sweep.{Hinted, Known, Shaped, Loose, Settled, Parted, Goes};
+ghost use Rattle.compare.specs.Sweep.{Differs, Hinted, Known, Shaped, Loose, Settled, Parted, Goes};
 use crate::engine::Found;
 use crate::engine::ones;
 use crate::engine_cubes::differs;
@@ -35,15 +35,14 @@ pub(crate) struct Parts {
     pub known: u64,
 }
 
-// The way that a block goes: nothing of it is listed, it is one piece with these answers, or its parts are swept.
+// The way that a block with a difference goes: it is one piece with these answers, or its parts are swept.
 pub(crate) enum Way {
-    Past,
     Piece(u16, u16),
     Parts(Parts),
 }
 
-// A difference of the block of 2^k headers from `base` on, or that there is none. One that is known is taken.
-fn ask(
+// A difference of the block of 2^k headers from `base` on, or that it has none at or after `start`. One that is known is taken.
+pub(crate) fn ask(
     oc: &[u64],
     ov: &[u64],
     od: &[u16],
@@ -54,6 +53,7 @@ fn ask(
     nd: &[u16],
     nl: &[u64; 17],
     nm: u16,
+    start: u64,
     base: u64,
     k: u32,
     hint: Found,
@@ -61,13 +61,17 @@ fn ask(
     requires { ⌜ Ready (now oc) (now ov) (now od) × Ready (now nc) (now nv) (now nd) × Block base k
         × Hinted (answerOf (now oc) (now ov) (now od) (now ol) om) (answerOf (now nc) (now nv) (now nd) (now nl) nm) base (base + 2 ^ k) hint ⌝ }
     ensures { λ r. ⌜ Known (answerOf (now (oc .entry)) (now (ov .entry)) (now (od .entry)) (now (ol .entry)) om)
-        (answerOf (now (nc .entry)) (now (nv .entry)) (now (nd .entry)) (now (nl .entry)) nm) base (base + 2 ^ k) r ⌝ }
+        (answerOf (now (nc .entry)) (now (nv .entry)) (now (nd .entry)) (now (nl .entry)) nm) start base (base + 2 ^ k) r ⌝ }
 {
+    let low = ones(k);
+    if base + low < start {
+        return Found::Nothing;
+    }
     let Found::Nothing = hint else {
         return hint;
     };
     let cube = Cube {
-        care: 18446744073709551615 - ones(k),
+        care: 18446744073709551615 - low,
         value: base,
     };
     let found = differs(oc, ov, od, ol, om, nc, nv, nd, nl, nm, cube, false);
@@ -172,8 +176,8 @@ fn shape_of(
     Shape::Mixed
 }
 
-// The places at which a header that some rule in play matches may have another value than h. Where place k - 1 from the right
-// is one of them, it says all places: no part of a block of 2^k headers is to be found then.
+// The places at which a header that some rule in play matches may have another value than h. Where the place of weight
+// 2^(k - 1) is one of them, it says all places: no part of a block of 2^k headers is to be found then.
 fn loose(care: &[u64], value: &[u64], live: &[u64; 17], h: u64, k: u32) -> u64
     requires { ⌜ (length (now care) ≤ 1024) × (length (now value) ≡ length (now care)) × (0 < k) × (k ≤ 64) ⌝ }
     ensures { λ r. ⌜ Loose (now (care .entry)) (now (value .entry)) (now (live .entry)) h (length (now (care .entry))) r ⌝ }
@@ -255,8 +259,8 @@ fn parts_of(base: u64, k: u32, h: u64, places: u64) -> Parts
     }
 }
 
-// The way that the block of 2^k headers from `base` on goes; `hint` may name a difference in it. Into `o` and `n`, which are
-// empty, go the rules in play that meet the block, where its parts are to be swept.
+// The way that the block of 2^k headers from `base` on goes, which has the difference h and does not lie before `start`. Into `o`
+// and `n`, which are empty, go the rules in play that meet the block.
 pub(crate) fn way_of(
     oc: &[u64],
     ov: &[u64],
@@ -271,28 +275,20 @@ pub(crate) fn way_of(
     start: u64,
     base: u64,
     k: u32,
-    hint: Found,
+    h: u64,
     o: &mut [u64; 17],
     n: &mut [u64; 17],
 ) -> Way
     requires { ⌜ Ready (now oc) (now ov) (now od) × Ready (now nc) (now nv) (now nd) × Block base k
-        × Hinted (answerOf (now oc) (now ov) (now od) (now ol) om) (answerOf (now nc) (now nv) (now nd) (now nl) nm) base (base + 2 ^ k) hint
+        × Differs (answerOf (now oc) (now ov) (now od) (now ol) om) (answerOf (now nc) (now nv) (now nd) (now nl) nm) start base (base + 2 ^ k) h
         × (length (now o) ≡ 17) × ((i : ℕ) → member (now o) i ≡ false) × (length (now n) ≡ 17) × ((i : ℕ) → member (now n) i ≡ false) ⌝ }
     ensures { λ r. ⌜ Goes (answerOf (now (oc .entry)) (now (ov .entry)) (now (od .entry)) (now (ol .entry)) om)
         (answerOf (now (nc .entry)) (now (nv .entry)) (now (nd .entry)) (now (nl .entry)) nm)
         (answerOf (now (oc .entry)) (now (ov .entry)) (now (od .entry)) (now (o .exit)) om)
         (answerOf (now (nc .entry)) (now (nv .entry)) (now (nd .entry)) (now (n .exit)) nm) start base k r ⌝ }
 {
-    let low = ones(k);
-    if base + low < start {
-        return Way::Past;
-    }
-    let found = ask(oc, ov, od, ol, om, nc, nv, nd, nl, nm, base, k, hint);
-    let Found::At(h) = found else {
-        return Way::Past;
-    };
     let cube = Cube {
-        care: 18446744073709551615 - low,
+        care: 18446744073709551615 - ones(k),
         value: base,
     };
     narrow(oc, ov, ol, o, cube);
@@ -300,9 +296,6 @@ pub(crate) fn way_of(
     let shape = shape_of(oc, ov, od, o, om, nc, nv, nd, n, nm, start, k, cube);
     if let Shape::Piece(a, b) = shape {
         return Way::Piece(a, b);
-    }
-    if k == 0 {
-        return Way::Past;
     }
     let places = loose_places(oc, ov, o, om, nc, nv, n, nm, h, k);
     Way::Parts(parts_of(base, k, h, places))
