@@ -67,17 +67,17 @@ rule-places x h c v lx lh q = same-bits _ _ (λ k. go k (decLt k 64))
 -- ---- the places of all rules in play
 
 module _ (cs vs live : List ℕ) (h : ℕ) where
-  pub loose-none : Loose cs vs live h 0 0
+  pub loose-none : Loose cs vs live (2 ^ 64) h 0 0
   unfolding Loose
   loose-none i l m x b q = absurd (let z : ⊥ = omega arith in z)
 
   -- all places
-  pub loose-all : h < 2 ^ 64 → (n : ℕ) → Loose cs vs live h n 18446744073709551615
+  pub loose-all : h < 2 ^ 64 → (n : ℕ) → Loose cs vs live (2 ^ 64) h n 18446744073709551615
   unfolding Loose
   loose-all lh n i l m x b q = and-mask (bitXor x h) 64 ∙ mod-eq-of-lt (xor-lt 64 x h b lh)
 
   -- no rule in play from n up to m
-  pub loose-skip : (n m places : ℕ) → n ≤ m → ((k : ℕ) → n ≤ k → k < m → member live k ≡ false) → Loose cs vs live h n places → Loose cs vs live h m places
+  pub loose-skip : (n m places : ℕ) → n ≤ m → ((k : ℕ) → n ≤ k → k < m → member live k ≡ false) → Loose cs vs live (2 ^ 64) h n places → Loose cs vs live (2 ^ 64) h m places
   unfolding Loose
   loose-skip n m places l N L i u in-play x b q = go (decLt i n)
     where
@@ -89,8 +89,8 @@ module _ (cs vs live : List ℕ) (h : ℕ) where
           differ e = let z : _≡_ {A = ℕ} 0 1 = cc in omega arith
 
   -- the rule n and those before it
-  pub loose-more : h < 2 ^ 64 → (n places : ℕ) → Loose cs vs live h n places
-      → Loose cs vs live h (n + 1) (bitOr places (bitOr (bitXor (getD cs n 0) 18446744073709551615) (bitXor (getD vs n 0) h)))
+  pub loose-more : h < 2 ^ 64 → (n places : ℕ) → Loose cs vs live (2 ^ 64) h n places
+      → Loose cs vs live (2 ^ 64) h (n + 1) (bitOr places (bitOr (bitXor (getD cs n 0) 18446744073709551615) (bitXor (getD vs n 0) h)))
   unfolding Loose
   loose-more lh n places L i u in-play x b q = go (decLt i n)
     where
@@ -101,7 +101,7 @@ module _ (cs vs live : List ℕ) (h : ℕ) where
           within-right (bitXor x h) places _ (rule-places x h (getD cs n 0) (getD vs n 0) b lh (subst (λ (y : ℕ). bitAnd x (getD cs y 0) ≡ getD vs y 0) e q))
 
   -- a header that differs from h at another place gets no answer
-  loose-miss : (ds : List ℕ) (miss places x : ℕ) → x < 2 ^ 64 → Loose cs vs live h (length cs) places → (bitAnd (bitXor x h) places ≡ bitXor x h → ⊥)
+  loose-miss : (ds : List ℕ) (miss places x : ℕ) → x < 2 ^ 64 → Loose cs vs live (2 ^ 64) h (length cs) places → (bitAnd (bitXor x h) places ≡ bitXor x h → ⊥)
       → answerOf cs vs ds live miss x ≡ miss
   unfolding Loose
   loose-miss ds miss places x b L n =
@@ -117,24 +117,24 @@ module _ (cs vs live : List ℕ) (h : ℕ) where
 
 module _ (u v : ℕ → ℕ) (h : ℕ) where
   -- any value at every place
-  pub settled-all : h < 2 ^ 64 → (places : ℕ) → places ≡ 18446744073709551615 → Settled u v h places
+  pub settled-all : h < 2 ^ 64 → (places : ℕ) → places ≡ 18446744073709551615 → Settled u v (2 ^ 64) h places
   unfolding Settled
   settled-all lh places e x b n =
       absurd (n (ap (bitAnd (bitXor x h)) e ∙ and-mask (bitXor x h) 64 ∙ mod-eq-of-lt (xor-lt 64 x h b lh)))
 
 module _ (cs vs live : List ℕ) (h n a b : ℕ) where
-  loose-left : Loose cs vs live h n a → Loose cs vs live h n (bitOr a b)
+  loose-left : Loose cs vs live (2 ^ 64) h n a → Loose cs vs live (2 ^ 64) h n (bitOr a b)
   unfolding Loose
   loose-left L i l m x u q = within-left (bitXor x h) a b (L i l m x u q)
 
-  loose-right : Loose cs vs live h n b → Loose cs vs live h n (bitOr a b)
+  loose-right : Loose cs vs live (2 ^ 64) h n b → Loose cs vs live (2 ^ 64) h n (bitOr a b)
   unfolding Loose
   loose-right L i l m x u q = within-right (bitXor x h) a b (L i l m x u q)
 
 -- a header with another value elsewhere misses on both sides, and a miss counts as the same number
 pub settled-places : (oc ov od ol : List ℕ) (om : ℕ) (nc nv nd nl : List ℕ) (nm h a b : ℕ) → om ≡ nm
-    → Loose oc ov ol h (length oc) a → Loose nc nv nl h (length nc) b
-    → Settled (answerOf oc ov od ol om) (answerOf nc nv nd nl nm) h (bitOr a b)
+    → Loose oc ov ol (2 ^ 64) h (length oc) a → Loose nc nv nl (2 ^ 64) h (length nc) b
+    → Settled (answerOf oc ov od ol om) (answerOf nc nv nd nl nm) (2 ^ 64) h (bitOr a b)
 unfolding Settled
 settled-places oc ov od ol om nc nv nd nl nm h a b e O N x l n =
     loose-miss oc ov ol h od om (bitOr a b) x l (loose-left oc ov ol h (length oc) a b O) n ∙ e
@@ -218,11 +218,11 @@ module _ (at k h places : ℕ) (B : Block at k) (from : at ≤ h) (below : h < a
     }
 
     -- what lies outside of it
-    outside : (u v : ℕ → ℕ) → Settled u v h places → (x : ℕ) → at ≤ x → x < at + 2 ^ k → (base x t ≡ part → ⊥) → u x ≡ v x
+    outside : (u v : ℕ → ℕ) → Settled u v (2 ^ 64) h places → (x : ℕ) → at ≤ x → x < at + 2 ^ k → (base x t ≡ part → ⊥) → u x ≡ v x
     unfolding Settled
     outside u v S x p q n = S x (omega (arith, B .fits)) (λ w. n (ap (λ (y : ℕ). y * 2 ^ t) (same-part x p q w) ∙ sym part-is))
 
-    pub parted-one : (u v : ℕ → ℕ) → Settled u v h places → Parted u v at k (parts t part part h)
+    pub parted-one : (u v : ℕ → ℕ) → Settled u v (2 ^ 64) h places → Parted u v at k (parts t part part h)
     parted-one u v S = record {
       less = less;
       lower = part-block;

@@ -180,7 +180,7 @@ fn shape_of(
 // 2^(k - 1) is one of them, it says all places: no part of a block of 2^k headers is to be found then.
 fn loose(care: &[u64], value: &[u64], live: &[u64; 17], h: u64, k: u32) -> u64
     requires { ⌜ (length (now care) ≤ 1024) × (length (now value) ≡ length (now care)) × (0 < k) × (k ≤ 64) ⌝ }
-    ensures { λ r. ⌜ Loose (now (care .entry)) (now (value .entry)) (now (live .entry)) h (length (now (care .entry))) r ⌝ }
+    ensures { λ r. ⌜ Loose (now (care .entry)) (now (value .entry)) (now (live .entry)) (2 ^ 64) h (length (now (care .entry))) r ⌝ }
 {
     let n = care.len();
     let words = (n + 63) / 64;
@@ -215,7 +215,7 @@ fn loose_places(
     requires { ⌜ (length (now oc) ≤ 1024) × (length (now ov) ≡ length (now oc)) × (length (now nc) ≤ 1024) × (length (now nv) ≡ length (now nc))
         × (0 < k) × (k ≤ 64) ⌝ }
     ensures { λ r. ⌜ ((od nd : List ℕ) → Settled (answerOf (now (oc .entry)) (now (ov .entry)) od (now (ol .entry)) om)
-        (answerOf (now (nc .entry)) (now (nv .entry)) nd (now (nl .entry)) nm) h r) ⌝ }
+        (answerOf (now (nc .entry)) (now (nv .entry)) nd (now (nl .entry)) nm) (2 ^ 64) h r) ⌝ }
 {
     if om != nm {
         return 18446744073709551615;
@@ -231,7 +231,7 @@ fn loose_places(
 // difference h at these places only: the smaller block that h lies in, or both halves.
 fn parts_of(base: u64, k: u32, h: u64, places: u64) -> Parts
     requires { ⌜ Block base k × (0 < k) × (base ≤ h) × (h < base + 2 ^ k) ⌝ }
-    ensures { λ r. ⌜ (r .known ≡ h) × ((u v : ℕ → ℕ) → Settled u v h places → Parted u v base k r) ⌝ }
+    ensures { λ r. ⌜ (r .known ≡ h) × ((u v : ℕ → ℕ) → Settled u v (2 ^ 64) h places → Parted u v base k r) ⌝ }
 {
     let some = places & ones(k);
     let z = u64::leading_zeros(some);

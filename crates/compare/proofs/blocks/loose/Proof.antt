@@ -1,4 +1,4 @@
-use Prim.Native.Nat.{_+_, _-_, _≤_, _<_}
+use Prim.Native.Nat.{_+_, _-_, _^_, _≤_, _<_}
 use native.Mathlib.Omega.{arith}
 use borrow.Author.Needs.{needs}
 use lib.ListN.{length}
@@ -13,7 +13,7 @@ use Rattle.compare.proofs.engine_sets.next.Reads as next-reads
 use Rattle.compare.proofs.engine_sets.start.Reads as start-reads
 
 abbrev Inv-loop : tie.InvT-loop
-Inv-loop care value live h k n words top places₀ s₀ places s = (s .at ≤ length care) × Loose care value live h (s .at) places × (s .at < length care → Pending live (s .word) (s .left) (s .rest) (s .at + 1))
+Inv-loop care value live h k n words top places₀ s₀ places s = (s .at ≤ length care) × Loose care value live (2 ^ 64) h (s .at) places × (s .at < length care → Pending live (s .word) (s .left) (s .rest) (s .at + 1))
 
 abbrev μ-loop : tie.MeasureT-loop
 μ-loop care value live h k n words top places₀ s₀ places s = length care - s .at
