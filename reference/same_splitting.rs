@@ -1,6 +1,10 @@
-// One question on all headers by an ordinary Rust program, to measure the proved engine against: it splits the same cubes at
-// the same places. Rules in play are index lists on one stack of indices. It reads the first lists of old.img and new.img.
+// The comparison as an ordinary Rust program, to measure the proved one against: it sweeps the same blocks and splits the same
+// cubes at the same places. Rules in play are index lists on one stack of indices. It compares the first list of old.img with that
+// of new.img, from header 0 on and up to 1,000 runs, and writes what the bench program writes; on standard error it says how many
+// blocks it swept and how many cubes it looked at. It does not check the images.
 use std::convert::TryInto;
+use std::fmt;
+use std::io::{BufWriter, Write};
 
 struct List {
     care: Vec<u64>,
@@ -8,7 +12,8 @@ struct List {
     decision: Vec<u16>,
 }
 
-fn load(path: &str) -> List {
+// The width of an image and its first list.
+fn load(path: &str) -> (u32, List) {
     let bytes = std::fs::read(path).unwrap();
     let from = u32::from_le_bytes(bytes[4..8].try_into().unwrap()) as usize;
     let count = u16::from_le_bytes(bytes[8..10].try_into().unwrap()) as usize;
@@ -18,7 +23,7 @@ fn load(path: &str) -> List {
         list.value.push(u64::from_le_bytes(rule[8..16].try_into().unwrap()));
         list.decision.push(u16::from_le_bytes(rule[16..18].try_into().unwrap()));
     }
-    list
+    (bytes[1] as u32, list)
 }
 
 // The rules of `live` that meet the cube, up to the first that covers it, onto the stack.
@@ -37,13 +42,13 @@ fn narrow(list: &List, stack: &mut Vec<u16>, live: std::ops::Range<usize>, care:
     from..stack.len()
 }
 
-fn answer(list: &List, live: &[u16], header: u64) -> u16 {
+fn answer(list: &List, live: &[u16], miss: u16, header: u64) -> u16 {
     for &i in live {
         if header & list.care[i as usize] == list.value[i as usize] {
             return list.decision[i as usize];
         }
     }
-    65535
+    miss
 }
 
 // How many of the first rules of both sides leave the same outside the cube.
@@ -63,7 +68,7 @@ fn alike(old: &List, new: &List, ol: &[u16], nl: &[u16], care: u64) -> (usize, b
 }
 
 // Whether the rules of one side from place p on, up to one that covers the cube, all decide d, or a miss counts as d.
-fn only(list: &List, live: &[u16], p: usize, care: u64, d: u16) -> bool {
+fn only(list: &List, live: &[u16], miss: u16, p: usize, care: u64, d: u16) -> bool {
     for &i in &live[p..] {
         if list.decision[i as usize] != d {
             return false;
@@ -72,23 +77,23 @@ fn only(list: &List, live: &[u16], p: usize, care: u64, d: u16) -> bool {
             return true;
         }
     }
-    d == 65535
+    d == miss
 }
 
 // Whether both sides give every header of the cube the same decision from place p on.
-fn settled(old: &List, new: &List, ol: &[u16], nl: &[u16], p: usize, care: u64) -> bool {
+fn settled(old: &List, new: &List, ol: &[u16], nl: &[u16], om: u16, nm: u16, p: usize, care: u64) -> bool {
     if p == ol.len() {
-        return only(new, nl, p, care, 65535);
+        return only(new, nl, nm, p, care, om);
     }
     if p == nl.len() {
-        return only(old, ol, p, care, 65535);
+        return only(old, ol, om, p, care, nm);
     }
     let d = old.decision[ol[p] as usize];
-    only(old, ol, p, care, d) && only(new, nl, p, care, d)
+    only(new, nl, nm, p, care, d) && only(old, ol, om, p, care, d)
 }
 
 // Adds the rules that care to the count of each place: bit p of counts[k] is bit k of the count of place p.
-fn tally(list: &List, live: &[u16], places: u64, counts: &mut [u64; 11]) {
+fn tally(list: &List, live: &[u16], places: u64, counts: &mut [u64; 12]) {
     for &i in live {
         let mut carry = list.care[i as usize] & places;
         for count in counts.iter_mut() {
@@ -111,7 +116,7 @@ fn wanted(old: &List, new: &List, ol: &[u16], nl: &[u16], p: usize, care: u64) -
         places |= new.care[nl[p] as usize] & !care;
     }
     if places != 0 {
-        let mut counts = [0; 11];
+        let mut counts = [0; 12];
         tally(old, ol, places, &mut counts);
         tally(new, nl, places, &mut counts);
         for count in counts.iter().rev() {
@@ -132,50 +137,282 @@ fn wanted(old: &List, new: &List, ol: &[u16], nl: &[u16], p: usize, care: u64) -
     places
 }
 
+// The places at which a header that some rule matches may have another value than h; all, as soon as `top` is one of them.
+fn loose(list: &List, live: &[u16], h: u64, top: u64) -> u64 {
+    let mut places = 0;
+    for &i in live {
+        places |= !list.care[i as usize] | (list.value[i as usize] ^ h);
+        if places & top != 0 {
+            return !0;
+        }
+    }
+    places
+}
+
+// The places at which a difference may have another value than the difference h: all, where a miss of both is a difference.
+fn loose_places(old: &List, new: &List, ol: &[u16], nl: &[u16], om: u16, nm: u16, h: u64, k: u32) -> u64 {
+    if om != nm {
+        return !0;
+    }
+    let top = 1 << (k - 1);
+    let places = loose(old, ol, h, top);
+    if places == !0 {
+        return places;
+    }
+    places | loose(new, nl, h, top)
+}
+
+// 2^k - 1: the k lowest bits.
+fn ones(k: u32) -> u64 {
+    if k == 64 {
+        return !0;
+    }
+    (1 << k) - 1
+}
+
+struct Run {
+    first: u64,
+    last: u64,
+    old: u16,
+    new: u16,
+}
+
+// Both recursions must stay functions of their own, for their calls to be counted. The lists are no part of it: whether one side
+// answers the same everywhere is asked of its list and an empty one.
 struct Search {
-    old: List,
-    new: List,
     stack: Vec<u16>,
+    start: u64,
+    runs: Vec<Run>,
+    blocks: u64,
     cubes: u64,
 }
 
 impl Search {
-    fn differs(&mut self, ol: std::ops::Range<usize>, nl: std::ops::Range<usize>, care: u64, value: u64, seen: bool) -> bool {
+    #[inline(never)]
+    fn differs(
+        &mut self,
+        old: &List,
+        new: &List,
+        ol: std::ops::Range<usize>,
+        nl: std::ops::Range<usize>,
+        om: u16,
+        nm: u16,
+        care: u64,
+        value: u64,
+        seen: bool,
+    ) -> Option<u64> {
         self.cubes += 1;
         let top = self.stack.len();
-        let ol = narrow(&self.old, &mut self.stack, ol, care, value);
-        let nl = narrow(&self.new, &mut self.stack, nl, care, value);
-        let found = self.split(ol, nl, care, value, seen);
+        let ol = narrow(old, &mut self.stack, ol, care, value);
+        let nl = narrow(new, &mut self.stack, nl, care, value);
+        let found = self.split(old, new, ol, nl, om, nm, care, value, seen);
         self.stack.truncate(top);
         found
     }
 
-    fn split(&mut self, ol: std::ops::Range<usize>, nl: std::ops::Range<usize>, care: u64, value: u64, seen: bool) -> bool {
+    fn split(
+        &mut self,
+        old: &List,
+        new: &List,
+        ol: std::ops::Range<usize>,
+        nl: std::ops::Range<usize>,
+        om: u16,
+        nm: u16,
+        care: u64,
+        value: u64,
+        seen: bool,
+    ) -> Option<u64> {
         let (o, n) = (&self.stack[ol.clone()], &self.stack[nl.clone()]);
-        let (p, covered) = alike(&self.old, &self.new, o, n, care);
+        let (p, covered) = alike(old, new, o, n, care);
         if covered {
-            return false;
+            return None;
         }
-        if settled(&self.old, &self.new, o, n, p, care) {
-            return false;
+        if settled(old, new, o, n, om, nm, p, care) {
+            return None;
         }
-        if !seen && answer(&self.old, o, value) != answer(&self.new, n, value) {
-            return true;
+        if !seen && answer(old, o, om, value) != answer(new, n, nm, value) {
+            return Some(value);
         }
         if care == !0 {
-            return false;
+            return None;
         }
-        let want = wanted(&self.old, &self.new, o, n, p, care);
+        let want = wanted(old, new, o, n, p, care);
         let place = if want != 0 { 1 << (63 - want.leading_zeros()) } else { 1 << (!care).trailing_zeros() };
-        self.differs(ol.clone(), nl.clone(), care | place, value, true) || self.differs(ol, nl, care | place, value | place, false)
+        let low = self.differs(old, new, ol.clone(), nl.clone(), om, nm, care | place, value, true);
+        if low.is_some() {
+            return low;
+        }
+        self.differs(old, new, ol, nl, om, nm, care | place, value | place, false)
+    }
+
+    // Whether one side answers a, as it does at the cube's value, on the whole cube.
+    fn steady(&mut self, list: &List, live: std::ops::Range<usize>, miss: u16, care: u64, value: u64, a: u16) -> bool {
+        if only(list, &self.stack[live.clone()], miss, 0, care, a) {
+            return true;
+        }
+        let none = List { care: vec![], value: vec![], decision: vec![] };
+        self.differs(list, &none, live, 0..0, miss, a, care, value, true).is_none()
+    }
+
+    // The two answers, where the block is one piece. Those at its last header mostly tell that it is not, without a question.
+    fn answers(
+        &mut self,
+        old: &List,
+        new: &List,
+        ol: std::ops::Range<usize>,
+        nl: std::ops::Range<usize>,
+        om: u16,
+        nm: u16,
+        base: u64,
+        k: u32,
+    ) -> Option<(u16, u16)> {
+        if base < self.start {
+            return None;
+        }
+        let (o, n) = (&self.stack[ol.clone()], &self.stack[nl.clone()]);
+        let (a, b) = (answer(old, o, om, base), answer(new, n, nm, base));
+        if a == b {
+            return None;
+        }
+        if k == 0 {
+            return Some((a, b));
+        }
+        let last = base + ones(k);
+        if answer(old, o, om, last) != a || answer(new, n, nm, last) != b {
+            return None;
+        }
+        if self.steady(old, ol, om, !ones(k), base, a) && self.steady(new, nl, nm, !ones(k), base, b) {
+            return Some((a, b));
+        }
+        None
+    }
+
+    // Lists the differences of the block of 2^k headers from `base` on. `hint` may name one. The error is the header at which the
+    // first run starts that there is no room for. The question comes before the sweep, so that a block without a difference costs
+    // no call of it.
+    fn part(
+        &mut self,
+        old: &List,
+        new: &List,
+        ol: std::ops::Range<usize>,
+        nl: std::ops::Range<usize>,
+        om: u16,
+        nm: u16,
+        base: u64,
+        k: u32,
+        hint: Option<u64>,
+    ) -> Result<(), u64> {
+        if base + ones(k) < self.start {
+            return Ok(());
+        }
+        let mut found = hint;
+        if found.is_none() {
+            found = self.differs(old, new, ol.clone(), nl.clone(), om, nm, !ones(k), base, false);
+        }
+        match found {
+            Some(h) => self.sweep(old, new, ol, nl, om, nm, base, k, h),
+            None => Ok(()),
+        }
+    }
+
+    // The same, where h is a difference.
+    #[inline(never)]
+    fn sweep(
+        &mut self,
+        old: &List,
+        new: &List,
+        ol: std::ops::Range<usize>,
+        nl: std::ops::Range<usize>,
+        om: u16,
+        nm: u16,
+        base: u64,
+        k: u32,
+        h: u64,
+    ) -> Result<(), u64> {
+        self.blocks += 1;
+        let top = self.stack.len();
+        let ol = narrow(old, &mut self.stack, ol, !ones(k), base);
+        let nl = narrow(new, &mut self.stack, nl, !ones(k), base);
+        let swept = self.list(old, new, ol, nl, om, nm, base, k, h);
+        self.stack.truncate(top);
+        swept
+    }
+
+    // The same, of rules in play that all meet the block.
+    fn list(
+        &mut self,
+        old: &List,
+        new: &List,
+        ol: std::ops::Range<usize>,
+        nl: std::ops::Range<usize>,
+        om: u16,
+        nm: u16,
+        base: u64,
+        k: u32,
+        h: u64,
+    ) -> Result<(), u64> {
+        if let Some((a, b)) = self.answers(old, new, ol.clone(), nl.clone(), om, nm, base, k) {
+            return self.piece(Run { first: base, last: base + ones(k), old: a, new: b });
+        }
+        if k == 0 {
+            return Ok(());
+        }
+        let places = loose_places(old, new, &self.stack[ol.clone()], &self.stack[nl.clone()], om, nm, h, k);
+        let size = 64 - (places & ones(k)).leading_zeros();
+        if size < k {
+            return self.part(old, new, ol, nl, om, nm, h & !ones(size), size, Some(h));
+        }
+        let half = base + (1 << (k - 1));
+        let (low, high) = if h < half { (Some(h), None) } else { (None, Some(h)) };
+        self.part(old, new, ol.clone(), nl.clone(), om, nm, base, k - 1, low)?;
+        self.part(old, new, ol, nl, om, nm, half, k - 1, high)
+    }
+
+    // Lists a piece: it lengthens the last run, or is a run of its own.
+    fn piece(&mut self, piece: Run) -> Result<(), u64> {
+        if let Some(run) = self.runs.last_mut() {
+            if run.last + 1 == piece.first && run.old == piece.old && run.new == piece.new {
+                run.last = piece.last;
+                return Ok(());
+            }
+        }
+        if self.runs.len() == 1000 {
+            return Err(piece.first);
+        }
+        self.runs.push(piece);
+        Ok(())
+    }
+}
+
+// An answer as it is written.
+struct Answer(u16);
+
+impl fmt::Display for Answer {
+    fn fmt(&self, f: &mut fmt::Formatter) -> fmt::Result {
+        match self.0 {
+            65535 => f.write_str("none"),
+            decision => decision.fmt(f),
+        }
     }
 }
 
 fn main() {
-    let (old, new) = (load("old.img"), load("new.img"));
+    let ((width, old), (_, new)) = (load("old.img"), load("new.img"));
     let (m, n) = (old.care.len(), new.care.len());
     let stack = (0..m as u16).chain(0..n as u16).collect();
-    let mut search = Search { old, new, stack, cubes: 0 };
-    let found = search.differs(0..m, m..m + n, 0, 0, false);
-    println!("{} {} {} cubes {}", m, n, if found { "differ" } else { "alike" }, search.cubes);
+    let mut search = Search { stack, start: 0, runs: vec![], blocks: 0, cubes: 0 };
+    let swept = search.part(&old, &new, 0..m, m..m + n, 65535, 65535, 0, width, None);
+
+    let stdout = std::io::stdout();
+    let mut out = BufWriter::new(stdout.lock());
+    writeln!(out, "width {}", width).unwrap();
+    for run in &search.runs {
+        writeln!(out, "{} {} {} {}", run.first, run.last, Answer(run.old), Answer(run.new)).unwrap();
+    }
+    match swept {
+        Ok(()) => writeln!(out, "runs {}", search.runs.len()).unwrap(),
+        Err(header) => writeln!(out, "more {}", header).unwrap(),
+    }
+    out.flush().unwrap();
+    eprintln!("{} blocks, {} cubes", search.blocks, search.cubes);
 }
