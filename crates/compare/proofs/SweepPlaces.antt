@@ -3,54 +3,49 @@ use Prim.Native.Nat.{ℕ, suc, _+_, _-_, _*_, _/_, _%_, _^_, _≤_, _<_, min, ma
 use mathlib.Core.Path.{_≡_, refl, sym, ap, ap₂, _∙_, subst}
 use mathlib.Core.Logic.{inl, inr}
 use mathlib.Core.List.{List}
-use mathlib.Core.Bool.{Bool, true, false}
+use mathlib.Core.Bool.{Bool, true, false, false≢true}
 use native.Mathlib.Omega.{arith}
 use native.Mathlib.Nat.{mod-eq-of-lt, mod-lt, div-eq-of-lt, mul-le-mul-right, mul-assoc, mul-mod-left}
 use native.Mathlib.Decide.{decLt}
 use lib.ListN.{length, getD}
-use lib.Bits.{bitAnd, bitOr, bitXor, and-mask, and-mod, and-le-r, xor-shr, xor-self, xor-lt}
-use lib.Pow.{pow-pos, pow-mono, pow-add, split}
+use lib.Bits.{bitAnd, bitOr, bitXor, or-comm, and-mask, and-mod, and-le-r, xor-shr, xor-self, xor-lt}
+use lib.Pow.{pow-pos, pow-add, split}
 use Rattle.rules.specs.Words.{bit}
-use Rattle.rules.proofs.BitLaws.{bit-and, bit-or, bit<2, same-bits, xor-odd, xor-zero}
+use Rattle.rules.proofs.BitLaws.{bit-and, bit-or, bit<2, same-bits, xor-zero}
+use Rattle.rules.proofs.PlaceLaws.{bit-xor, bit-high}
 use Rattle.compare.specs.EngineSets.{member, hit, answerOf}
 use Rattle.compare.specs.EngineCubes.{Block}
 use Rattle.compare.specs.declared.blocks.Parts.{Parts}
-use Rattle.compare.specs.Sweep.{Loose, Settled, Parted}
+use Rattle.compare.specs.Sweep.{SameBut, Loose, Settled, Parted}
 use Rattle.compare.proofs.EngineBlocks.{base, base-le, below-next, in-block, upper, ends, low-block, high-block}
 use Rattle.compare.proofs.EngineFirst.{rest-end, rest-skip}
 use Rattle.compare.proofs.EngineRules.{hit-no, hit-out, answer-rest}
 use Rattle.compare.proofs.EngineWhole.{one-place}
 
--- ---- bit by bit
+-- ---- place by place
 
-bit-xor : (a b k : ℕ) → bit (bitXor a b) k ≡ (bit a k + bit b k) % 2
-bit-xor a b k = ap (λ (x : ℕ). x % 2) (xor-shr a b k) ∙ xor-odd (a / 2 ^ k) (b / 2 ^ k)
+-- any value at every place
+any-value : (x h : ℕ) → x < 2 ^ 64 → h < 2 ^ 64 → SameBut x h 18446744073709551615
+any-value x h l lh = and-mask (bitXor x h) 64 ∙ mod-eq-of-lt (xor-lt 64 x h l lh)
 
--- a word has no place from 64 on
-no-place : (x k : ℕ) → x < 2 ^ 64 → 64 ≤ k → bit x k ≡ 0
-no-place x k l u =
-    let p : 2 ^ 64 ≤ 2 ^ k = pow-mono u in
-    ap (λ (y : ℕ). y % 2) (div-eq-of-lt (let z : x < 2 ^ k = omega arith in z))
-
-inside : (d a e : ℕ) → d < 2 → min d a ≡ d → min d (max a e) ≡ d
-inside d a e l q = omega arith
-
+-- more places
 within-left : (d a e : ℕ) → bitAnd d a ≡ d → bitAnd d (bitOr a e) ≡ d
 within-left d a e q = same-bits (bitAnd d (bitOr a e)) d (λ k.
     let t : min (bit d k) (bit a k) ≡ bit d k = sym (bit-and d a k) ∙ ap (λ (x : ℕ). bit x k) q in
-    bit-and d (bitOr a e) k ∙ ap (min (bit d k)) (bit-or a e k) ∙ inside (bit d k) (bit a k) (bit e k) (bit<2 d k) t)
+    bit-and d (bitOr a e) k ∙ ap (min (bit d k)) (bit-or a e k) ∙ one-in (bit d k) (bit a k) (bit e k) (bit<2 d k) t)
+  where
+    one-in : (d a e : ℕ) → d < 2 → min d a ≡ d → min d (max a e) ≡ d
+    one-in d a e l q = omega arith
 
 within-right : (d a e : ℕ) → bitAnd d e ≡ d → bitAnd d (bitOr a e) ≡ d
-within-right d a e q = same-bits (bitAnd d (bitOr a e)) d (λ k.
-    let t : min (bit d k) (bit e k) ≡ bit d k = sym (bit-and d e k) ∙ ap (λ (x : ℕ). bit x k) q in
-    bit-and d (bitOr a e) k ∙ ap (min (bit d k)) (bit-or a e k) ∙ (let l = bit<2 d k in omega arith))
+within-right d a e q = ap (bitAnd d) (or-comm a e) ∙ within-left d e a q
 
 -- where a place is cared for, a header that matches has the rule's value
 one-bit : (x h c v f : ℕ) → x < 2 → h < 2 → c < 2 → v < 2 → f ≡ 1 → min x c ≡ v → min ((x + h) % 2) (max ((c + f) % 2) ((v + h) % 2)) ≡ (x + h) % 2
 one-bit x h c v f lx lh lc lv e q = omega arith
 
 -- a header that a rule matches differs from h at most where the rule does not care or has another value than h
-rule-places : (x h c v : ℕ) → x < 2 ^ 64 → h < 2 ^ 64 → bitAnd x c ≡ v → bitAnd (bitXor x h) (bitOr (bitXor c 18446744073709551615) (bitXor v h)) ≡ bitXor x h
+rule-places : (x h c v : ℕ) → x < 2 ^ 64 → h < 2 ^ 64 → bitAnd x c ≡ v → SameBut x h (bitOr (bitXor c 18446744073709551615) (bitXor v h))
 rule-places x h c v lx lh q = same-bits _ _ (λ k. go k (decLt k 64))
   where
     go : (k : ℕ) → Dec (k < 64) → bit (bitAnd (bitXor x h) (bitOr (bitXor c 18446744073709551615) (bitXor v h))) k ≡ bit (bitXor x h) k
@@ -61,7 +56,7 @@ rule-places x h c v lx lh q = same-bits _ _ (λ k. go k (decLt k 64))
         ∙ one-bit (bit x k) (bit h k) (bit c k) (bit v k) (bit 18446744073709551615 k) (bit<2 x k) (bit<2 h k) (bit<2 c k) (bit<2 v k) (one-place k l) m
         ∙ sym (bit-xor x h k)
     go k (no n) =
-        let z : bit (bitXor x h) k ≡ 0 = bit-xor x h k ∙ (let a = no-place x k lx (omega arith) in let b = no-place h k lh (omega arith) in omega arith) in
+        let z : bit (bitXor x h) k ≡ 0 = bit-xor x h k ∙ (let a = bit-high 64 x k lx (omega arith) in let b = bit-high 64 h k lh (omega arith) in omega arith) in
         bit-and (bitXor x h) (bitOr (bitXor c 18446744073709551615) (bitXor v h)) k ∙ (omega arith)
 
 -- ---- the places of all rules in play
@@ -74,19 +69,16 @@ module _ (cs vs live : List ℕ) (h : ℕ) where
   -- all places
   pub loose-all : h < 2 ^ 64 → (n : ℕ) → Loose cs vs live (2 ^ 64) h n 18446744073709551615
   unfolding Loose
-  loose-all lh n i l m x b q = and-mask (bitXor x h) 64 ∙ mod-eq-of-lt (xor-lt 64 x h b lh)
+  loose-all lh n i l m x b q = any-value x h b lh
 
   -- no rule in play from n up to m
   pub loose-skip : (n m places : ℕ) → n ≤ m → ((k : ℕ) → n ≤ k → k < m → member live k ≡ false) → Loose cs vs live (2 ^ 64) h n places → Loose cs vs live (2 ^ 64) h m places
   unfolding Loose
   loose-skip n m places l N L i u in-play x b q = go (decLt i n)
     where
-      go : Dec (i < n) → bitAnd (bitXor x h) places ≡ bitXor x h
+      go : Dec (i < n) → SameBut x h places
       go (yes s) = L i s in-play x b q
-      go (no s) = absurd (let z : _≡_ {A = Bool} true false = sym in-play ∙ N i (omega arith) u in differ z)
-        where
-          differ : _≡_ {A = Bool} true false → ⊥
-          differ e = let z : _≡_ {A = ℕ} 0 1 = cc in omega arith
+      go (no s) = absurd (false≢true (sym (N i (omega arith) u) ∙ in-play))
 
   -- the rule n and those before it
   pub loose-more : h < 2 ^ 64 → (n places : ℕ) → Loose cs vs live (2 ^ 64) h n places
@@ -94,14 +86,14 @@ module _ (cs vs live : List ℕ) (h : ℕ) where
   unfolding Loose
   loose-more lh n places L i u in-play x b q = go (decLt i n)
     where
-      go : Dec (i < n) → bitAnd (bitXor x h) (bitOr places (bitOr (bitXor (getD cs n 0) 18446744073709551615) (bitXor (getD vs n 0) h))) ≡ bitXor x h
+      go : Dec (i < n) → SameBut x h (bitOr places (bitOr (bitXor (getD cs n 0) 18446744073709551615) (bitXor (getD vs n 0) h)))
       go (yes s) = within-left (bitXor x h) places _ (L i s in-play x b q)
       go (no s) =
           let e : i ≡ n = omega arith in
           within-right (bitXor x h) places _ (rule-places x h (getD cs n 0) (getD vs n 0) b lh (subst (λ (y : ℕ). bitAnd x (getD cs y 0) ≡ getD vs y 0) e q))
 
   -- a header that differs from h at another place gets no answer
-  loose-miss : (ds : List ℕ) (miss places x : ℕ) → x < 2 ^ 64 → Loose cs vs live (2 ^ 64) h (length cs) places → (bitAnd (bitXor x h) places ≡ bitXor x h → ⊥)
+  loose-miss : (ds : List ℕ) (miss places x : ℕ) → x < 2 ^ 64 → Loose cs vs live (2 ^ 64) h (length cs) places → (SameBut x h places → ⊥)
       → answerOf cs vs ds live miss x ≡ miss
   unfolding Loose
   loose-miss ds miss places x b L n =
@@ -115,12 +107,10 @@ module _ (cs vs live : List ℕ) (h : ℕ) where
 
 -- ---- two sides
 
-module _ (u v : ℕ → ℕ) (h : ℕ) where
-  -- any value at every place
-  pub settled-all : h < 2 ^ 64 → (places : ℕ) → places ≡ 18446744073709551615 → Settled u v (2 ^ 64) h places
-  unfolding Settled
-  settled-all lh places e x b n =
-      absurd (n (ap (bitAnd (bitXor x h)) e ∙ and-mask (bitXor x h) 64 ∙ mod-eq-of-lt (xor-lt 64 x h b lh)))
+-- nothing is said of any place
+pub settled-all : (u v : ℕ → ℕ) (h : ℕ) → h < 2 ^ 64 → (places : ℕ) → places ≡ 18446744073709551615 → Settled u v (2 ^ 64) h places
+unfolding Settled
+settled-all u v h lh places e x l n = absurd (n (ap (bitAnd (bitXor x h)) e ∙ any-value x h l lh))
 
 module _ (cs vs live : List ℕ) (h n a b : ℕ) where
   loose-left : Loose cs vs live (2 ^ 64) h n a → Loose cs vs live (2 ^ 64) h n (bitOr a b)
@@ -160,7 +150,7 @@ module _ (at k h places : ℕ) (B : Block at k) (from : at ≤ h) (below : h < a
 
   -- the block of 2^t headers that h lies in, where no place from t up to k is named
   module _ (o : ℕ) (is : o + 1 ≡ 2 ^ k) (t low : ℕ) (is′ : low + 1 ≡ 2 ^ t) (less : t < k) (few : bitAnd places o ≤ low) where
-    same-part : (x : ℕ) → at ≤ x → x < at + 2 ^ k → bitAnd (bitXor x h) places ≡ bitXor x h → x / 2 ^ t ≡ h / 2 ^ t
+    same-part : (x : ℕ) → at ≤ x → x < at + 2 ^ k → SameBut x h places → x / 2 ^ t ≡ h / 2 ^ t
     same-part x p q w =
         let d : ℕ = bitXor x h in
         let z : d / 2 ^ k ≡ 0 = xor-shr x h k ∙ ap₂ bitXor (of-block x p q) (of-block h from below) ∙ xor-self (at / 2 ^ k) in

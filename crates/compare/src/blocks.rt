@@ -228,7 +228,8 @@ fn loose_places(
 }
 
 // The parts of the block of 2^k headers from `base` on that are to be swept, where a difference may have another value than the
-// difference h at these places only: the smaller block that h lies in, or both halves.
+// difference h at these places only: the smaller block that h lies in, or both halves. That the count of zeros tells the size of the
+// smaller block is tested, and not relied on.
 fn parts_of(base: u64, k: u32, h: u64, places: u64) -> Parts
     requires { ⌜ Block base k × (0 < k) × (base ≤ h) × (h < base + 2 ^ k) ⌝ }
     ensures { λ r. ⌜ (r .known ≡ h) × ((u v : ℕ → ℕ) → Settled u v (2 ^ 64) h places → Parted u v base k r) ⌝ }
