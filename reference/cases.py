@@ -1,108 +1,58 @@
-"""Random cases, good and damaged, for the program of the crate `cases`, with the lines that it has to print.
+"""Random cases, good and damaged, in the form of docs/CASES.md, with the answers of the model beside them.
 
-    cases.py SEED COUNT FOLDER [--small] [KIND..]
+    cases.py SEED COUNT [--small] [KIND..]
 
-writes FOLDER/stdin (the cases) and FOLDER/stdout (the lines). The kinds are those of KINDS below, or the name of a library
-for all of its kinds, and all of them where none is named. The same seed gives the same cases. With --small a case has at
-most 500 bytes.
-
-The layout. Numbers have their lowest byte first. A case is the number of its bytes (4) and those bytes; the first is the
-kind. LIST stands for three lengths (2 each) and then the care words (8 each), the value words (8 each) and the decisions
-(2 each); RULE for a care word (8), a value word (8) and a decision (2); SWAP for a width (4) and 64 places (1 each).
-
-     1  check_list      width (4), LIST
-     2  check_list_as   width (4), LIST, list number (8)
-     3  lookup          width (4), LIST, how many headers (2), headers (8 each)
-     4  rule_at         width (4), LIST, how many positions (2), positions (8 each)
-     8  check_rule      width (4), list number (8), rule number (8), RULE
-     9  covers, crosses, distance         width (4), RULE, RULE
-    10  rule_covers, rule_crosses         width (4), RULE, RULE (good rules only)
-    11  put_rule        width (4), LIST, position (8), RULE
-    16  prefix_swap     width (4), LIST
-    17  lookup_swapped  width (4), LIST, SWAP, header (8): the header is moved by the swap and then looked up
-    24  apply_rule, apply, undo, invert, compose of two swaps: SWAP, SWAP, RULE, header (8)
-    32  runs            width (4), LIST, length of the result (2)
-    33  weave           width (4), LIST, lengths of the results (2 each of 3)
-    48  compare         width (4), LIST, LIST, start (8), lengths of the results (2 each of 4)
-    72  check, width, count, entry, body, body_refusal, read of an image: id (2), number of an entry (2), lengths of the results
-        (2 each of 3), the image's bytes
-    73  write           width (4), number of ids (2), number of counts (2), LIST, length of the result (4), ids (2 each),
-        counts (2 each)
-    74  compare_lists   the old list's id (2), the new list's id (2), then as 75
-    75  compare_first   start (8), lengths of the results (2 each of 4), number of bytes of the old image (4), the old image's
-        bytes, the new image's bytes
-
-A line is the case's number from 1, its kind and the answers. A refusal is `refused`, its number and its place. A slice stands
-in brackets; one of more than 64 numbers as its length and a checksum: 31 times the sum so far plus the next number, by 2^64.
-Before a call a result slice of numbers holds 40000, 40001, .., one of bytes 0 to 250 over and over.
+writes COUNT cases to standard output. The kinds are those of KINDS below, or the name of a library for all of its kinds, and all
+of them where none is named. The same seed gives the same cases. With --small a case has at most 500 bytes.
 """
-import os
 import random
-import struct
 import sys
 
+import answers
 import model
+from answers import numbers_said, rule_said, shortened
 from model import Refused, Swap
 
 BAD_WIDTHS = [0, 65, 66, 128, 255, 2**31, 2**32 - 1]
 
 
-# What is printed. -------------------------------------------------------------------------------------------------------
+# What is handed in, as text. ---------------------------------------------------------------------------------------------
 
 
-def said(call, *arguments):
-    """The answer as text; a call that answers nothing says `fine`."""
-    try:
-        answer = call(*arguments)
-    except Refused as refused:
-        return "refused %d %d %d" % (refused.number, refused.list, refused.rule)
-    if answer is None:
-        return "fine"
-    if isinstance(answer, bool):
-        return "yes" if answer else "no"
-    if isinstance(answer, tuple):
-        return " ".join(str(x) for x in answer)
-    return str(answer)
-
-
-def decided(call, *arguments):
-    """The same of a call whose answer is a decision or no match."""
-    text = said(call, *arguments)
-    return "none" if text == str(model.NO_MATCH) else text
-
-
-def shown(slice):
-    if len(slice) <= 64:
-        return "[" + "".join(" %d" % x for x in slice) + " ]"
-    sum = 0
-    for x in slice:
-        sum = (31 * sum + x) % 2**64
-    return "[# %d %d ]" % (len(slice), sum)
-
-
-def marks(length):
-    return [40000 + i % 10000 for i in range(length)]
-
-
-def byte_marks(length):
-    return [i % 251 for i in range(length)]
-
-
-# What is handed in. -----------------------------------------------------------------------------------------------------
-
-
-def list_bytes(list):
+def list_text(width, list):
+    """Rules, or the three slices where they differ in length."""
     care, value, decision = list
-    lengths = struct.pack("<HHH", len(care), len(value), len(decision))
-    return lengths + b"".join(struct.pack("<%d%s" % (len(s), t), *s) for s, t in zip(list, "QQH"))
+    if len(care) == len(value) == len(decision):
+        return shortened([rule_said(width, rule) for rule in zip(*list)], ", ")
+    return "care %s value %s decision %s" % tuple(numbers_said(slice) for slice in list)
 
 
-def rule_bytes(rule):
-    return struct.pack("<QQH", *rule)
+def rules_text(width, *rules):
+    return shortened([rule_said(width, rule) for rule in rules], ", ")
 
 
-def swap_bytes(swap):
-    return struct.pack("<I64B", swap.width, *swap.places)
+def swap_text(swap):
+    places = swap.places[:]
+    while places and places[-1] == 0:
+        places.pop()
+    return "swap %d %s" % (swap.width, numbers_said(places))
+
+
+def marks(first, length):
+    """What a result slice holds before a call: numbers that all differ, or one number where it is long."""
+    if length == 0:
+        return "[]"
+    return "[%d to %d]" % (first, first + length - 1) if length <= 12 else "[%d times %d]" % (length, first)
+
+
+def list_marks(lengths):
+    return "care %s value %s decision %s" % tuple(marks(first, length) for first, length in zip((40000, 50000, 60000), lengths))
+
+
+def run_marks(lengths):
+    return "first %s last %s old %s new %s" % tuple(
+        marks(first, length) for first, length in zip((30000, 40000, 50000, 60000), lengths)
+    )
 
 
 class Maker:
@@ -290,49 +240,43 @@ class Maker:
         return lengths
 
 
-# The kinds. Each makes one case: its bytes after the kind, and the line. ------------------------------------------------
+# The kinds. Each makes one case. -----------------------------------------------------------------------------------------
 
 
 def listed(make, most=12, percent=20):
-    """A width, a list, and their bytes."""
+    """A width, a list, and both as text."""
     width = make.width()
     list = make.any_list(width, most, percent)
     given = make.any_width(width)
-    return width, given, list, struct.pack("<I", given) + list_bytes(list)
+    return width, list, "width %d list %s" % (given, list_text(width, list))
 
 
 def check_list(make):
-    _, width, list, bytes = listed(make, percent=50)
-    return bytes, said(model.check_list, width, *list)
+    return "check_list " + listed(make, percent=50)[2]
 
 
 def check_list_as(make):
-    _, width, list, bytes = listed(make, percent=50)
-    number = make.pick(0, 1, 2, 16, 2**64 - 1)
-    return bytes + struct.pack("<Q", number), said(model.check_list, width, *list, number)
+    return "check_list_as %s as %d" % (listed(make, percent=50)[2], make.pick(0, 1, 2, 16, 2**64 - 1))
 
 
 def lookup(make):
-    good, width, list, bytes = listed(make, most=20, percent=10)
+    good, list, text = listed(make, most=20, percent=10)
     headers = [make.any_header(good, list) for _ in range(make.random.randint(1, 8))]
-    bytes += struct.pack("<H%dQ" % len(headers), len(headers), *headers)
-    return bytes, " ".join(decided(model.lookup, width, *list, header) for header in headers)
+    return "%s %s headers %s" % (make.pick("lookup", "lookup", "lookup_number"), text, numbers_said(headers))
 
 
 def rule_at(make):
-    _, _, list, bytes = listed(make, percent=50)
+    _, list, text = listed(make, percent=50)
     ends = [len(slice) for slice in list]
-    positions = [make.pick(0, 1, 2, ends[0], ends[1] - 1, ends[2] + 1, 2**64 - 1) % 2**64 for _ in range(3)]
-    bytes += struct.pack("<H3Q", 3, *positions)
-    return bytes, " ".join(said(model.rule_at, *list, k) for k in positions)
+    place = make.pick(0, 1, 2, ends[0], ends[1] - 1, ends[2] + 1, 2**64 - 1) % 2**64
+    return "rule_at %s place %d" % (text[text.index("list") :], place)
 
 
 def check_rule(make):
     good = make.width()
     width, rule = make.any_width(good), make.any_rule(good, 50)
     list, number = make.pick(0, 1, 2, 2**64 - 1), make.pick(0, 1, 7, 1024, 2**64 - 1)
-    bytes = struct.pack("<IQQ", width, list, number) + rule_bytes(rule)
-    return bytes, said(model.check_rule, width, list, number, rule)
+    return "check_rule width %d list %d number %d rule %s" % (width, list, number, rules_text(good, rule))
 
 
 def pair_of(make, percent):
@@ -343,42 +287,27 @@ def pair_of(make, percent):
         a = make.bad_rule(good, a)
     if make.chance(percent):
         b = make.bad_rule(good, b)
-    return good, a, b, rule_bytes(a) + rule_bytes(b)
+    return good, rules_text(good, a, b)
 
 
 def pair(make):
-    good, a, b, bytes = pair_of(make, 15)
-    width = make.any_width(good)
-    calls = (model.covers, model.crosses, model.distance)
-    return struct.pack("<I", width) + bytes, " ".join(said(call, width, a, b) for call in calls)
+    good, text = pair_of(make, 15)
+    return "%s width %d rules %s" % (make.pick("covers", "crosses", "distance"), make.any_width(good), text)
 
 
 def bare_pair(make):
-    width, a, b, bytes = pair_of(make, 0)
-    return struct.pack("<I", width) + bytes, " ".join(said(call, width, a, b) for call in (model.covers, model.crosses))
+    return "%s rules %s" % (make.pick("rule_covers", "rule_crosses"), pair_of(make, 0)[1])
 
 
 def put_rule(make):
-    good, _, list, bytes = listed(make, percent=50)
-    position = make.pick(0, 1, len(list[0]) - 1, len(list[1]), len(list[2]) + 1, 2**64 - 1) % 2**64
+    good, list, text = listed(make, percent=50)
+    place = make.pick(0, 1, len(list[0]) - 1, len(list[1]), len(list[2]) + 1, 2**64 - 1) % 2**64
     rule = make.any_rule(good, 50)
-    bytes += struct.pack("<Q", position) + rule_bytes(rule)
-    model.put_rule(*list, position, rule)
-    return bytes, " ".join(shown(slice) for slice in list)
-
-
-def swap_said(call, *arguments):
-    """The verdict, and the swap: zeros beside a refusal."""
-    try:
-        swap = call(*arguments)
-    except Refused:
-        return "%s 0 %s" % (said(call, *arguments), shown([0] * 64))
-    return "fine %d %s" % (swap.width, shown(swap.places))
+    return "put_rule %s place %d rule %s" % (text[text.index("list") :], place, rules_text(good, rule))
 
 
 def prefix_swap(make):
-    _, width, list, bytes = listed(make, percent=10)
-    return bytes, swap_said(model.prefix_swap, width, *list)
+    return "prefix_swap " + listed(make, percent=10)[2]
 
 
 def swapped_list(swap, list):
@@ -387,54 +316,45 @@ def swapped_list(swap, list):
 
 
 def lookup_swapped(make):
-    """A list, mostly moved by a swap, and a header moved by the same one."""
+    """A list, mostly moved by a swap, and headers moved by the same one."""
     good = make.width()
     list = make.list_of(good, make.some())
     swap = make.swap(good)
-    header = make.any_header(good, list, 6)
+    headers = [make.header(good, list) for _ in range(make.random.randint(1, 4))]
     if make.chance(80):
         list = swapped_list(swap, list)
+        headers = [model.apply(swap, header) for header in headers]
     if make.chance(10):
         list = make.bad_list(good, list)
     if make.chance(10):
-        swap = make.any_swap(make.width())
+        headers.append(make.bad_header(good))
     width = make.any_width(good)
-    bytes = struct.pack("<I", width) + list_bytes(list) + swap_bytes(swap) + struct.pack("<Q", header)
-    try:
-        moved = model.apply(swap, header)
-    except Refused:
-        return bytes, said(model.apply, swap, header)
-    return bytes, decided(model.lookup, width, *list, moved)
+    return "lookup_swapped width %d list %s headers %s" % (width, list_text(good, list), numbers_said(headers))
 
 
 def swaps(make):
     good = make.width()
     first = make.any_swap(good)
-    second = make.any_swap(good if make.chance(80) else make.width())
-    rule, header = make.any_rule(good, 10), make.any_header(good, None, 10)
-    bytes = swap_bytes(first) + swap_bytes(second) + rule_bytes(rule) + struct.pack("<Q", header)
-    texts = [said(model.apply_rule, first, rule), said(model.apply, first, header)]
-    try:
-        texts.append(said(model.undo, second, model.apply(first, header)))
-    except Refused:
-        texts.append("-")
-    return bytes, " ".join(texts + [swap_said(model.invert, first), swap_said(model.compose, first, second)])
+    call = make.pick("apply_rule", "apply", "undo", "invert", "compose")
+    text = call + " " + swap_text(first)
+    if call == "apply_rule":
+        return text + " rule " + rules_text(good, make.any_rule(good, 10))
+    if call == "compose":
+        return text + " " + swap_text(make.any_swap(good if make.chance(80) else make.width()))
+    if call == "invert":
+        return text
+    return text + " header %d" % make.any_header(good, None, 10)
 
 
 def runs(make):
-    _, width, list, bytes = listed(make, most=30, percent=10)
+    _, list, text = listed(make, most=30, percent=10)
     (length,) = make.lengths(1, len(list[0]))
-    sizes = marks(length)
-    text = said(model.runs, width, *list, sizes)
-    return bytes + struct.pack("<H", length), text + " " + shown(sizes)
+    return "runs %s into %s" % (text, marks(40000, length))
 
 
 def weave(make):
-    _, width, list, bytes = listed(make, most=80 if make.chance(2) else 30, percent=10)
-    lengths = make.lengths(3, len(list[0]))
-    results = [marks(length) for length in lengths]
-    text = said(model.weave, width, *list, *results)
-    return bytes + struct.pack("<3H", *lengths), " ".join([text] + [shown(slice) for slice in results])
+    _, list, text = listed(make, most=80 if make.chance(2) else 30, percent=10)
+    return "weave %s into %s" % (text, list_marks(make.lengths(3, len(list[0]))))
 
 
 def like(make, width, list):
@@ -460,22 +380,11 @@ def like(make, width, list):
 
 def four_lengths(make):
     """Lengths of a comparison's results: most often equal."""
-    room = make.pick(0, 1, 1, 2, 3, 5, 20, 20, 64, 64, 64)
+    room = make.pick(0, 1, 1, 2, 3, 5, 20, 20, 40, 40)
     lengths = [room] * 4
     if make.chance(8):
         lengths[make.random.randrange(4)] += make.pick(1, 2)
     return lengths
-
-
-def compared(lengths, call, *arguments):
-    """The count with its ending, and the four results afterwards."""
-    results = [marks(length) for length in lengths]
-    try:
-        count, more = call(*arguments, *results)
-        text = "%d %s" % (count, "finished" if more is None else "more %d" % more)
-    except Refused as refused:
-        text = "0 refused %d %d %d" % (refused.number, refused.list, refused.rule)
-    return " ".join([text] + [shown(slice) for slice in results])
 
 
 def compare(make):
@@ -489,9 +398,8 @@ def compare(make):
     if make.chance(8):
         new = make.bad_list(good, new)
     width = make.any_width(good, 4)
-    lengths = four_lengths(make)
-    bytes = struct.pack("<I", width) + list_bytes(old) + list_bytes(new) + struct.pack("<Q4H", start, *lengths)
-    return bytes, compared(lengths, model.compare, width, old, new, start)
+    text = "compare width %d old %s new %s" % (width, list_text(good, old), list_text(good, new))
+    return "%s start %d into %s" % (text, start, run_marks(four_lengths(make)))
 
 
 def good_image(make):
@@ -555,24 +463,6 @@ def bad_image(make, image):
     return bytes(image)
 
 
-def image_entry(image, k):
-    """Number k of the contents, from 1: its id and its number of rules. There is no other: 15."""
-    model.check_image(image)
-    if not 1 <= k <= image[2]:
-        raise Refused(15)
-    _, count, id = model.entry_at(image, k - 1)
-    return id, count
-
-
-def body_of(image, id):
-    """The bytes of the body with this id; none on a refusal."""
-    try:
-        offset, size = model.body(image, id)
-    except Refused:
-        return b""
-    return image[offset : offset + size]
-
-
 def image(make):
     width, counts, ids, rules = good_image(make)
     image = model.image_bytes(width, counts, ids, zip(*rules))
@@ -581,16 +471,15 @@ def image(make):
             image = bad_image(make, image)
     which = make.random.randrange(len(ids))
     id = ids[which] if make.chance(80) else make.pick(0, 65535, ids[which] + 1, ids[which] - 1) % 65536
-    number = make.pick(0, 1, 1, 2, len(ids), len(ids) + 1, 65535)
-    lengths = make.lengths(3, counts[which])
-    results = [marks(length) for length in lengths]
-    bytes = struct.pack("<2H3H", id, number, *lengths) + image
-    texts = [said(call, image) for call in (model.check_image, model.image_width, model.image_count)]
-    texts.append(said(image_entry, image, number))
-    texts.append(said(lambda: model.find(image, id) and None))
-    texts.append(shown(body_of(image, id)))
-    texts.append(said(model.read, image, id, *results))
-    return bytes, " ".join(texts + [shown(slice) for slice in results])
+    call = make.pick("check", "check", "width", "count", "entry", "body", "body_refusal", "read", "read", "read")
+    text = "%s image %s" % (call, numbers_said(image))
+    if call == "entry":
+        return text + " number %d" % make.pick(0, 1, 1, 2, len(ids), len(ids) + 1, 65535)
+    if call in ("body", "body_refusal"):
+        return text + " id %d" % id
+    if call == "read":
+        return text + " id %d into %s" % (id, list_marks(make.lengths(3, counts[which])))
+    return text
 
 
 def bad_writing(make, width, counts, ids, rules):
@@ -629,10 +518,8 @@ def write(make):
             width, counts, ids, rules = bad_writing(make, width, counts, ids, rules)
     size = model.HEAD + model.ENTRY * len(ids) + model.RULE * len(rules[0])
     (length,) = make.lengths(1, size)
-    out = byte_marks(length)
-    bytes = struct.pack("<IHH", width, len(ids), len(counts)) + list_bytes(rules) + struct.pack("<I", length)
-    bytes += struct.pack("<%dH" % (len(ids) + len(counts)), *ids, *counts)
-    return bytes, said(model.write, width, counts, ids, *rules, out) + " " + shown(out)
+    text = "write width %d list %s ids %s counts %s" % (width, list_text(width, rules), numbers_said(ids), numbers_said(counts))
+    return "%s into [%d times %d]" % (text, length, make.pick(0, 7, 238))
 
 
 def some_lists(make, width):
@@ -696,43 +583,38 @@ def asked_id(make, lists):
     return id if make.chance(88) else make.pick(0, 65535, id + 1, id - 1) % 65536
 
 
-def both_bytes(start, lengths, images):
-    return struct.pack("<Q4HI", start, *lengths, len(images[0])) + images[0] + images[1]
-
-
 def compare_lists(make):
     width, old, new, images = two_images(make)
     old_id = asked_id(make, old)
     new_id = old_id if make.chance(70 if old_id in new else 10) else asked_id(make, new)
     start = make.pick(0, 0, make.any_header(width, old.get(old_id)), make.any_header(width, new.get(new_id)))
-    lengths = four_lengths(make)
-    bytes = struct.pack("<2H", old_id, new_id) + both_bytes(start, lengths, images)
-    return bytes, compared(lengths, model.compare_lists, images[0], old_id, images[1], new_id, start)
+    text = "compare_lists old %s id %d new %s id %d" % (numbers_said(images[0]), old_id, numbers_said(images[1]), new_id)
+    return "%s start %d into %s" % (text, start, run_marks(four_lengths(make)))
 
 
 def compare_first(make):
     width, old, new, images = two_images(make)
     start = make.pick(0, 0, make.any_header(width, old[min(old)]), make.any_header(width, new[min(new)]))
-    lengths = four_lengths(make)
-    return both_bytes(start, lengths, images), compared(lengths, model.compare_first, *images, start)
+    text = "compare_first old %s new %s" % tuple(numbers_said(image) for image in images)
+    return "%s start %d into %s" % (text, start, run_marks(four_lengths(make)))
 
 
 KINDS = {
     "rules": {
-        "check_list": (1, check_list),
-        "check_list_as": (2, check_list_as),
-        "lookup": (3, lookup),
-        "rule_at": (4, rule_at),
-        "check_rule": (8, check_rule),
-        "pair": (9, pair),
-        "bare_pair": (10, bare_pair),
-        "put_rule": (11, put_rule),
+        "check_list": check_list,
+        "check_list_as": check_list_as,
+        "lookup": lookup,
+        "rule_at": rule_at,
+        "check_rule": check_rule,
+        "pair": pair,
+        "bare_pair": bare_pair,
+        "put_rule": put_rule,
     },
-    "swaps": {"prefix_swap": (16, prefix_swap), "lookup_swapped": (17, lookup_swapped), "swap": (24, swaps)},
-    "weaving": {"runs": (32, runs), "weave": (33, weave)},
-    "compare": {"comparison": (48, compare)},
-    "image": {"images": (72, image), "write": (73, write)},
-    "lists": {"compare_lists": (74, compare_lists), "compare_first": (75, compare_first)},
+    "swaps": {"prefix_swap": prefix_swap, "lookup_swapped": lookup_swapped, "swap": swaps},
+    "weaving": {"runs": runs, "weave": weave},
+    "compare": {"comparison": compare},
+    "image": {"images": image, "write": write},
+    "lists": {"compare_lists": compare_lists, "compare_first": compare_first},
 }
 
 
@@ -745,18 +627,19 @@ def kinds_named(names):
     return chosen
 
 
-def main(seed, count, folder, names):
-    most = 500 if "--small" in names else 98304
+def main(seed, count, names):
+    most = 500 if "--small" in names else 100000
     make, kinds = Maker(seed), kinds_named([name for name in names if name != "--small"])
-    with open(os.path.join(folder, "stdin"), "wb") as cases, open(os.path.join(folder, "stdout"), "w") as lines:
-        for number in range(1, count + 1):
-            kind, case = make.random.choice(kinds)
-            bytes, line = case(make)
-            while len(bytes) >= most:
-                bytes, line = case(make)
-            cases.write(struct.pack("<IB", len(bytes) + 1, kind) + bytes)
-            lines.write("%d %d %s\n" % (number, kind, line))
+    print("# Random cases: seed %d." % seed)
+    for _ in range(count):
+        kind = make.random.choice(kinds)
+        case = kind(make)
+        answer = answers.answer(case)
+        while len(case) + len(answer) >= most:
+            case = kind(make)
+            answer = answers.answer(case)
+        print("%s\n= %s" % (case, answer))
 
 
 if __name__ == "__main__":
-    main(int(sys.argv[1]), int(sys.argv[2]), sys.argv[3], sys.argv[4:])
+    main(int(sys.argv[1]), int(sys.argv[2]), sys.argv[3:])

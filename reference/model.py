@@ -583,10 +583,8 @@ def write(width, counts, ids, care, value, decision, out):
 # Two images. ------------------------------------------------------------------------------------------------------------
 
 
-def check_images(old_image, new_image):
-    """All checks of the old image, then all of the new one's, then 16. A place is the refused image's own entry and rule."""
-    check_image(old_image)
-    check_image(new_image)
+def check_widths(old_image, new_image):
+    """16, of two images that passed their checks."""
     if old_image[1] != new_image[1]:
         raise Refused(16)
 
@@ -598,17 +596,20 @@ def list_of(image, entry):
 
 
 def compare_lists(old_image, old_id, new_image, new_id, start, *results):
-    """The old image's list with the one id against the new image's with the other, as compare does two lists. The two images'
-    checks, 15 for the old list, 15 for the new one; then 6 for the start, 2 and 7 for the results."""
-    check_images(old_image, new_image)
+    """The old image's list with the one id against the new image's with the other, as compare does two lists. All checks of the old
+    image and 15 for its list, all of the new image and 15 for its list, then 16; then 6 for the start, 2 and 7 for the results. A place
+    is the refused image's own entry and rule."""
     old = list_of(old_image, find(old_image, old_id))
     new = list_of(new_image, find(new_image, new_id))
+    check_widths(old_image, new_image)
     return compare(old_image[1], old, new, start, *results)
 
 
 def compare_first(old_image, new_image, start, *results):
     """The first list of each image. An image that passes its checks has one, so there is no 15."""
-    check_images(old_image, new_image)
+    check_image(old_image)
+    check_image(new_image)
+    check_widths(old_image, new_image)
     old = list_of(old_image, entry_at(old_image, 0))
     new = list_of(new_image, entry_at(new_image, 0))
     return compare(old_image[1], old, new, start, *results)

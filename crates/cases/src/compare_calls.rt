@@ -1,55 +1,49 @@
-// The cases of the comparison of two lists.
-use crate::numbers::count;
-use crate::numbers::list_at;
-use crate::numbers::skip;
-use crate::numbers::word;
+// The comparison of two lists: the crate `compare`, and of lists of two images: the crate `image`.
+use crate::given;
+use crate::runs;
 use crate::show;
 use crate::slices;
+use crate::source::after;
+use crate::source::ended;
+use crate::source::is_bad;
+use crate::source::named;
 use rules::Wire;
 
-// The cases over a list, which is the old one; the new one and what follows it stand at `at`.
+// `new`: the list that the old one is compared with.
 pub fn on_list(
-    kind: u8,
     s: &[u8],
     at: usize,
     width: u32,
-    care: &[u64],
-    value: &[u64],
-    decision: &[u16],
-) {
-    if kind == 48 {
-        let p = list_at(s, at);
-        let mut care_space = [0u64; 4112];
-        let mut value_space = [0u64; 4112];
-        let mut decision_space = [0u16; 4112];
-        let all_care: &mut [u64] = &mut care_space;
-        let all_value: &mut [u64] = &mut value_space;
-        let all_decision: &mut [u16] = &mut decision_space;
-        slices::fill_words(s, p.care_at, slices::words_mut(all_care, p.cares));
-        slices::fill_words(s, p.value_at, slices::words_mut(all_value, p.values));
-        slices::fill_halves(
-            s,
-            p.decision_at,
-            slices::halves_mut(all_decision, p.decisions),
-        );
-        both(
-            s,
-            p.end,
-            width,
-            care,
-            value,
-            decision,
-            slices::words(all_care, p.cares),
-            slices::words(all_value, p.values),
-            slices::halves(all_decision, p.decisions),
-        );
-    }
+    old_care: &[u64],
+    old_value: &[u64],
+    old_decision: &[u16],
+    out: &mut [u8],
+) -> usize {
+    let mut care_space = [0u64; 4112];
+    let mut value_space = [0u64; 4112];
+    let mut decision_space = [0u16; 4112];
+    let care: &mut [u64] = &mut care_space;
+    let value: &mut [u64] = &mut value_space;
+    let decision: &mut [u16] = &mut decision_space;
+    let l = given::list(s, after(s, at, b"new"), care, value, decision);
+    on_lists(
+        s,
+        l.at,
+        width,
+        old_care,
+        old_value,
+        old_decision,
+        slices::words(care, l.cares),
+        slices::words(value, l.values),
+        slices::halves(decision, l.decisions),
+        out,
+    )
 }
 
-// The start and the lengths of the results stand at `at`.
-fn both(
+// `start` and `into`.
+fn on_lists(
     s: &[u8],
-    at: usize,
+    from: usize,
     width: u32,
     old_care: &[u64],
     old_value: &[u64],
@@ -57,8 +51,8 @@ fn both(
     new_care: &[u64],
     new_value: &[u64],
     new_decision: &[u16],
-) {
-    let start = Wire(word(s, at));
+    out: &mut [u8],
+) -> usize {
     let mut first_space = [0u64; 4112];
     let mut last_space = [0u64; 4112];
     let mut old_space = [0u16; 4112];
@@ -67,15 +61,17 @@ fn both(
     let all_last: &mut [u64] = &mut last_space;
     let all_old: &mut [u16] = &mut old_space;
     let all_new: &mut [u16] = &mut new_space;
-    let first = slices::words_mut(all_first, count(s, skip(at, 8)));
-    let last = slices::words_mut(all_last, count(s, skip(at, 10)));
-    let old = slices::halves_mut(all_old, count(s, skip(at, 12)));
-    let new = slices::halves_mut(all_new, count(s, skip(at, 14)));
-    slices::mark_words(first);
-    slices::mark_words(last);
-    slices::mark_halves(old);
-    slices::mark_halves(new);
-    show::compared(compare::compare(
+    let start = named(s, from, b"start", 18446744073709551615);
+    let l = runs::runs(s, start.at, all_first, all_last, all_old, all_new);
+    let end = ended(s, l.at);
+    if is_bad(end) {
+        return end;
+    }
+    let first = slices::words_mut(all_first, l.firsts);
+    let last = slices::words_mut(all_last, l.lasts);
+    let old = slices::halves_mut(all_old, l.olds);
+    let new = slices::halves_mut(all_new, l.news);
+    let c = compare::compare(
         width,
         old_care,
         old_value,
@@ -83,14 +79,93 @@ fn both(
         new_care,
         new_value,
         new_decision,
-        start,
+        Wire(start.value),
         first,
         last,
         old,
         new,
-    ));
-    show::words(first);
-    show::words(last);
-    show::halves(old);
-    show::halves(new);
+    );
+    let answer = show::compared(out, 0, c);
+    runs::show_runs(out, answer, first, last, old, new)
+}
+
+// `old` and its `id`, `new` and its `id`.
+pub fn compare_lists(s: &[u8], from: usize, out: &mut [u8]) -> usize {
+    let mut old_space = [0u8; 65600];
+    let mut new_space = [0u8; 65600];
+    let old: &mut [u8] = &mut old_space;
+    let new: &mut [u8] = &mut new_space;
+    let o = given::bytes(s, from, b"old", old);
+    let old_id = named(s, o.at, b"id", 65535);
+    let n = given::bytes(s, old_id.at, b"new", new);
+    let new_id = named(s, n.at, b"id", 65535);
+    on_images(
+        true,
+        s,
+        new_id.at,
+        slices::bytes(old, o.count),
+        (old_id.value % 65536) as u16,
+        slices::bytes(new, n.count),
+        (new_id.value % 65536) as u16,
+        out,
+    )
+}
+
+// `old` and `new`.
+pub fn compare_first(s: &[u8], from: usize, out: &mut [u8]) -> usize {
+    let mut old_space = [0u8; 65600];
+    let mut new_space = [0u8; 65600];
+    let old: &mut [u8] = &mut old_space;
+    let new: &mut [u8] = &mut new_space;
+    let o = given::bytes(s, from, b"old", old);
+    let n = given::bytes(s, o.at, b"new", new);
+    on_images(
+        false,
+        s,
+        n.at,
+        slices::bytes(old, o.count),
+        0,
+        slices::bytes(new, n.count),
+        0,
+        out,
+    )
+}
+
+// `start` and `into`; the lists with these ids, or the first ones.
+fn on_images(
+    by_id: bool,
+    s: &[u8],
+    from: usize,
+    before: &[u8],
+    old_id: u16,
+    behind: &[u8],
+    new_id: u16,
+    out: &mut [u8],
+) -> usize {
+    let mut first_space = [0u64; 4112];
+    let mut last_space = [0u64; 4112];
+    let mut old_space = [0u16; 4112];
+    let mut new_space = [0u16; 4112];
+    let all_first: &mut [u64] = &mut first_space;
+    let all_last: &mut [u64] = &mut last_space;
+    let all_old: &mut [u16] = &mut old_space;
+    let all_new: &mut [u16] = &mut new_space;
+    let start = named(s, from, b"start", 18446744073709551615);
+    let l = runs::runs(s, start.at, all_first, all_last, all_old, all_new);
+    let end = ended(s, l.at);
+    if is_bad(end) {
+        return end;
+    }
+    let first = slices::words_mut(all_first, l.firsts);
+    let last = slices::words_mut(all_last, l.lasts);
+    let old = slices::halves_mut(all_old, l.olds);
+    let new = slices::halves_mut(all_new, l.news);
+    let h = Wire(start.value);
+    let c = if by_id {
+        image::compare_lists(before, old_id, behind, new_id, h, first, last, old, new)
+    } else {
+        image::compare_first(before, behind, h, first, last, old, new)
+    };
+    let answer = show::compared(out, 0, c);
+    runs::show_runs(out, answer, first, last, old, new)
 }

@@ -1,103 +1,170 @@
-// The cases of images: every question about one, reading a list out of it, and writing one.
-use crate::numbers::count;
-use crate::numbers::half;
-use crate::numbers::list_at;
-use crate::numbers::rest;
-use crate::numbers::single;
-use crate::numbers::skip;
+// The calls on images: the crate `image`.
+use crate::given;
 use crate::show;
 use crate::slices;
+use crate::source::after;
+use crate::source::ended;
+use crate::source::is_bad;
+use crate::source::named;
 use image::Listed;
 use image::Outcome;
 
-fn show_outcome(o: Outcome) {
+fn show_outcome(out: &mut [u8], o: Outcome) -> usize {
     match o {
-        Outcome::Number(n) => show::number(n as u64),
-        Outcome::Refused(x) => show::refusal(x),
+        Outcome::Number(n) => show::number(out, 0, n as u64),
+        Outcome::Refused(x) => show::refusal(out, 0, x),
     }
 }
 
-fn show_listed(l: Listed) {
+fn show_listed(out: &mut [u8], l: Listed) -> usize {
     match l {
         Listed::List { id, rules } => {
-            show::number(id as u64);
-            show::number(rules as u64);
+            let at = show::named(out, 0, b"id ", id as u64);
+            show::named(out, at, b" rules ", rules as u64)
         }
-        Listed::Refused(x) => show::refusal(x),
+        Listed::Refused(x) => show::refusal(out, 0, x),
     }
 }
 
-pub fn alone(kind: u8, s: &[u8]) {
-    if kind == 72 {
-        let image = rest(s, 11);
-        show::verdict(image::check(image));
-        show_outcome(image::width(image));
-        show_outcome(image::count(image));
-        show_listed(image::entry(image, count(s, 3)));
-        show::verdict(image::body_refusal(image, half(s, 1)));
-        show::bytes(image::body(image, half(s, 1)));
-        read(s, image);
-    } else if kind == 73 {
-        write(s);
+// The calls that have an image.
+pub fn on_image(name: &[u8], s: &[u8], from: usize, out: &mut [u8]) -> usize {
+    let mut space = [0u8; 65600];
+    let all: &mut [u8] = &mut space;
+    let f = given::bytes(s, from, b"image", all);
+    let image = slices::bytes(all, f.count);
+    if check::same(name, b"entry") {
+        return entry(image, s, f.at, out);
     }
+    if check::same(name, b"body") {
+        return body(name, image, s, f.at, out);
+    }
+    if check::same(name, b"body_refusal") {
+        return body(name, image, s, f.at, out);
+    }
+    if check::same(name, b"read") {
+        return read(image, s, f.at, out);
+    }
+    let end = ended(s, f.at);
+    if is_bad(end) {
+        return end;
+    }
+    whole(name, image, out)
 }
 
-fn read(s: &[u8], image: &[u8]) {
+fn whole(name: &[u8], image: &[u8], out: &mut [u8]) -> usize {
+    if check::same(name, b"check") {
+        return show::verdict(out, 0, image::check(image));
+    }
+    if check::same(name, b"width") {
+        return show_outcome(out, image::width(image));
+    }
+    show_outcome(out, image::count(image))
+}
+
+// `number`: which entry, counted from 1.
+fn entry(image: &[u8], s: &[u8], from: usize, out: &mut [u8]) -> usize {
+    let number = named(s, from, b"number", 18446744073709551615);
+    let end = ended(s, number.at);
+    if is_bad(end) {
+        return end;
+    }
+    show_listed(out, image::entry(image, number.value as usize))
+}
+
+// `id`: of which list.
+fn body(name: &[u8], image: &[u8], s: &[u8], from: usize, out: &mut [u8]) -> usize {
+    let id = named(s, from, b"id", 65535);
+    let end = ended(s, id.at);
+    if is_bad(end) {
+        return end;
+    }
+    let i = (id.value % 65536) as u16;
+    if check::same(name, b"body") {
+        return show::bytes(out, 0, b"", image::body(image, i));
+    }
+    show::verdict(out, 0, image::body_refusal(image, i))
+}
+
+// The width as an image says it, for patterns; 0 where it says none.
+fn width_of(image: &[u8]) -> u32 {
+    let w = image::width(image);
+    if let Outcome::Number(n) = w {
+        if n <= 64 {
+            return n as u32;
+        }
+    }
+    0
+}
+
+// `id`, and `into`: the list that takes the rules.
+fn read(image: &[u8], s: &[u8], from: usize, out: &mut [u8]) -> usize {
     let mut care_space = [0u64; 4112];
     let mut value_space = [0u64; 4112];
     let mut decision_space = [0u16; 4112];
     let all_care: &mut [u64] = &mut care_space;
     let all_value: &mut [u64] = &mut value_space;
     let all_decision: &mut [u16] = &mut decision_space;
-    let care = slices::words_mut(all_care, count(s, 5));
-    let value = slices::words_mut(all_value, count(s, 7));
-    let decision = slices::halves_mut(all_decision, count(s, 9));
-    slices::mark_words(care);
-    slices::mark_words(value);
-    slices::mark_halves(decision);
-    show_outcome(image::read(image, half(s, 1), care, value, decision));
-    show::words(care);
-    show::words(value);
-    show::halves(decision);
-}
-
-// The list of all rules stands where it does in cases over a list, four bytes on.
-fn write(s: &[u8]) {
-    let p = list_at(s, 9);
-    let mut care_space = [0u64; 4112];
-    let mut value_space = [0u64; 4112];
-    let mut decision_space = [0u16; 4112];
-    let care: &mut [u64] = &mut care_space;
-    let value: &mut [u64] = &mut value_space;
-    let decision: &mut [u16] = &mut decision_space;
-    slices::fill_words(s, p.care_at, slices::words_mut(care, p.cares));
-    slices::fill_words(s, p.value_at, slices::words_mut(value, p.values));
-    slices::fill_halves(s, p.decision_at, slices::halves_mut(decision, p.decisions));
-    write_lists(
+    let id = named(s, from, b"id", 65535);
+    let l = given::list(
         s,
-        p.end,
-        slices::words(care, p.cares),
-        slices::words(value, p.values),
-        slices::halves(decision, p.decisions),
+        after(s, id.at, b"into"),
+        all_care,
+        all_value,
+        all_decision,
     );
+    let end = ended(s, l.at);
+    if is_bad(end) {
+        return end;
+    }
+    let care = slices::words_mut(all_care, l.cares);
+    let value = slices::words_mut(all_value, l.values);
+    let decision = slices::halves_mut(all_decision, l.decisions);
+    let o = image::read(image, (id.value % 65536) as u16, care, value, decision);
+    let answer = show_outcome(out, o);
+    show::list(
+        out,
+        answer,
+        b" into ",
+        width_of(image),
+        care,
+        value,
+        decision,
+    )
 }
 
-// The length of the result, the ids and the counts stand at `at`.
-fn write_lists(s: &[u8], at: usize, care: &[u64], value: &[u64], decision: &[u16]) {
-    let width = single(s, 1);
-    let length = single(s, at) as usize;
+// The call `write`: it has a width and a list, and after these `ids`, `counts` and `into`, the bytes that take the image.
+pub fn write(
+    s: &[u8],
+    at: usize,
+    width: u32,
+    care: &[u64],
+    value: &[u64],
+    decision: &[u16],
+    out: &mut [u8],
+) -> usize {
     let mut id_space = [0u16; 4112];
     let mut count_space = [0u16; 4112];
-    let mut out_space = [0u8; 98304];
-    let all_ids: &mut [u16] = &mut id_space;
-    let all_counts: &mut [u16] = &mut count_space;
-    let all_out: &mut [u8] = &mut out_space;
-    let ids = slices::halves_mut(all_ids, count(s, 5));
-    let counts = slices::halves_mut(all_counts, count(s, 7));
-    let out = slices::bytes_mut(all_out, length);
-    slices::fill_halves(s, skip(at, 4), ids);
-    slices::fill_halves(s, skip(skip(at, 4), count(s, 5) * 2), counts);
-    slices::mark_bytes(out);
-    show_outcome(image::write(width, ids, counts, care, value, decision, out));
-    show::bytes(out);
+    let mut byte_space = [0u8; 65600];
+    let ids: &mut [u16] = &mut id_space;
+    let counts: &mut [u16] = &mut count_space;
+    let all: &mut [u8] = &mut byte_space;
+    let i = given::halves(s, at, b"ids", ids);
+    let c = given::halves(s, i.at, b"counts", counts);
+    let f = given::bytes(s, c.at, b"into", all);
+    let end = ended(s, f.at);
+    if is_bad(end) {
+        return end;
+    }
+    let image = slices::bytes_mut(all, f.count);
+    let o = image::write(
+        width,
+        slices::halves(ids, i.count),
+        slices::halves(counts, c.count),
+        care,
+        value,
+        decision,
+        image,
+    );
+    let answer = show_outcome(out, o);
+    show::bytes(out, answer, b" into ", image)
 }

@@ -1,101 +1,242 @@
-// The cases of the crate `rules`: checks, lookup, rules in slices, and the questions about two rules.
-use crate::numbers::count;
-use crate::numbers::list_at;
-use crate::numbers::rule;
-use crate::numbers::single;
-use crate::numbers::skip;
-use crate::numbers::word;
+// The calls on lists of rules and on rules: the crate `rules`.
+use crate::given;
 use crate::show;
 use crate::slices;
+use crate::source::after;
+use crate::source::ended;
+use crate::source::is_bad;
+use crate::source::named;
+use rules::Rule;
 use rules::Wire;
 
-// The cases over a list; what follows the list in the case stands at `at`.
+// The calls that have a width and a list; `at` is the position after these.
 pub fn on_list(
-    kind: u8,
+    name: &[u8],
     s: &[u8],
     at: usize,
     width: u32,
     care: &[u64],
     value: &[u64],
     decision: &[u16],
-) {
-    if kind == 1 {
-        show::verdict(rules::check_list(width, care, value, decision));
-    } else if kind == 2 {
-        show::verdict(rules::check_list_as(word(s, at) as usize, width, care, value, decision));
-    } else if kind == 3 {
-        look_up(s, at, width, care, value, decision);
-    } else if kind == 4 {
-        read_rules(s, at, care, value, decision);
+    out: &mut [u8],
+) -> usize {
+    if check::same(name, b"check_list") {
+        let end = ended(s, at);
+        if is_bad(end) {
+            return end;
+        }
+        return show::verdict(out, 0, rules::check_list(width, care, value, decision));
     }
+    if check::same(name, b"check_list_as") {
+        let list = named(s, at, b"as", 18446744073709551615);
+        let end = ended(s, list.at);
+        if is_bad(end) {
+            return end;
+        }
+        let v = rules::check_list_as(list.value as usize, width, care, value, decision);
+        return show::verdict(out, 0, v);
+    }
+    lookups(s, at, width, care, value, decision, out)
 }
 
-// Looks each of the headers up that follow the list.
-fn look_up(s: &[u8], at: usize, width: u32, care: &[u64], value: &[u64], decision: &[u16]) {
-    let mut left = count(s, at);
-    let mut from = skip(at, 2);
-    while left > 0 {
-        show::looked(rules::lookup(width, care, value, decision, Wire(word(s, from))));
-        from = skip(from, 8);
-        left -= 1;
+// `headers`: each of them is looked up.
+fn lookups(
+    s: &[u8],
+    at: usize,
+    width: u32,
+    care: &[u64],
+    value: &[u64],
+    decision: &[u16],
+    out: &mut [u8],
+) -> usize {
+    let mut space = [0u64; 4112];
+    let headers: &mut [u64] = &mut space;
+    let f = given::words(s, at, b"headers", headers);
+    let end = ended(s, f.at);
+    if is_bad(end) {
+        return end;
     }
+    look_up(
+        width,
+        care,
+        value,
+        decision,
+        slices::words(headers, f.count),
+        out,
+    )
 }
 
-// Reads the rule at each of the positions that follow the list.
-fn read_rules(s: &[u8], at: usize, care: &[u64], value: &[u64], decision: &[u16]) {
-    let mut left = count(s, at);
-    let mut from = skip(at, 2);
-    while left > 0 {
-        show::rule(rules::rule_at(care, value, decision, word(s, from) as usize));
-        from = skip(from, 8);
-        left -= 1;
+fn look_up(
+    width: u32,
+    care: &[u64],
+    value: &[u64],
+    decision: &[u16],
+    headers: &[u64],
+    out: &mut [u8],
+) -> usize {
+    let mut at = 0;
+    let mut i = 0;
+    while i < headers.len() {
+        at = show::between(out, at, i, b", ");
+        let l = rules::lookup(
+            width,
+            care,
+            value,
+            decision,
+            Wire(slices::word_at(headers, i)),
+        );
+        at = show::looked(out, at, l);
+        i += 1;
     }
+    at
 }
 
-// The cases without a list.
-pub fn alone(kind: u8, s: &[u8]) {
-    if kind == 8 {
-        show::verdict(rules::check_rule(
-            single(s, 1),
-            word(s, 5) as usize,
-            word(s, 13) as usize,
-            rule(s, 21),
-        ));
-    } else if kind == 9 {
-        show::holds(rules::covers(single(s, 1), rule(s, 5), rule(s, 23)));
-        show::holds(rules::crosses(single(s, 1), rule(s, 5), rule(s, 23)));
-        show::measured(rules::distance(single(s, 1), rule(s, 5), rule(s, 23)));
-    } else if kind == 10 {
-        show::yes_or_no(rules::rule_covers(rule(s, 5), rule(s, 23)));
-        show::yes_or_no(rules::rule_crosses(rule(s, 5), rule(s, 23)));
-    } else if kind == 11 {
-        put(s);
+// The calls that have rules and no list: all that are handed in stand in brackets after the name of the argument.
+pub fn on_rules(name: &[u8], s: &[u8], from: usize, out: &mut [u8]) -> usize {
+    if check::same(name, b"check_rule") {
+        return check_rule(s, from, out);
     }
+    if check::same(name, b"rule_at") {
+        return rule_at(s, from, out);
+    }
+    if check::same(name, b"put_rule") {
+        return put_rule(s, from, out);
+    }
+    if check::same(name, b"rule_covers") {
+        return pair(name, 0, s, from, out);
+    }
+    if check::same(name, b"rule_crosses") {
+        return pair(name, 0, s, from, out);
+    }
+    let width = named(s, from, b"width", 4294967295);
+    pair(name, (width.value % 4294967296) as u32, s, width.at, out)
 }
 
-// Puts a rule into a list, and shows the list.
-fn put(s: &[u8]) {
-    let p = list_at(s, 5);
+fn check_rule(s: &[u8], from: usize, out: &mut [u8]) -> usize {
+    let mut care = [0u64; 1];
+    let mut value = [0u64; 1];
+    let mut decision = [0u16; 1];
+    let width = named(s, from, b"width", 4294967295);
+    let list = named(s, width.at, b"list", 18446744073709551615);
+    let number = named(s, list.at, b"number", 18446744073709551615);
+    let end = ended(
+        s,
+        given::some_rules(
+            s,
+            number.at,
+            b"rule",
+            1,
+            &mut care,
+            &mut value,
+            &mut decision,
+        ),
+    );
+    if is_bad(end) {
+        return end;
+    }
+    let rule = rules::rule_at(&care, &value, &decision, 0);
+    let w = (width.value % 4294967296) as u32;
+    show::verdict(
+        out,
+        0,
+        rules::check_rule(w, list.value as usize, number.value as usize, rule),
+    )
+}
+
+// `rules`: two of them.
+fn pair(name: &[u8], width: u32, s: &[u8], from: usize, out: &mut [u8]) -> usize {
+    let mut care = [0u64; 2];
+    let mut value = [0u64; 2];
+    let mut decision = [0u16; 2];
+    let end = ended(
+        s,
+        given::some_rules(s, from, b"rules", 2, &mut care, &mut value, &mut decision),
+    );
+    if is_bad(end) {
+        return end;
+    }
+    let a = rules::rule_at(&care, &value, &decision, 0);
+    let b = rules::rule_at(&care, &value, &decision, 1);
+    asked(name, width, a, b, out)
+}
+
+fn asked(name: &[u8], width: u32, a: Rule, b: Rule, out: &mut [u8]) -> usize {
+    if check::same(name, b"covers") {
+        return show::holds(out, 0, rules::covers(width, a, b));
+    }
+    if check::same(name, b"crosses") {
+        return show::holds(out, 0, rules::crosses(width, a, b));
+    }
+    if check::same(name, b"distance") {
+        return show::measured(out, 0, rules::distance(width, a, b));
+    }
+    if check::same(name, b"rule_covers") {
+        return show::yes_or_no(out, 0, rules::rule_covers(a, b));
+    }
+    show::yes_or_no(out, 0, rules::rule_crosses(a, b))
+}
+
+// `list`, then `place`, counted from 0.
+fn rule_at(s: &[u8], from: usize, out: &mut [u8]) -> usize {
+    let mut care_space = [0u64; 4112];
+    let mut value_space = [0u64; 4112];
+    let mut decision_space = [0u16; 4112];
+    let care: &mut [u64] = &mut care_space;
+    let value: &mut [u64] = &mut value_space;
+    let decision: &mut [u16] = &mut decision_space;
+    let l = given::list(s, after(s, from, b"list"), care, value, decision);
+    let place = named(s, l.at, b"place", 18446744073709551615);
+    let end = ended(s, place.at);
+    if is_bad(end) {
+        return end;
+    }
+    let r = rules::rule_at(
+        slices::words(care, l.cares),
+        slices::words(value, l.values),
+        slices::halves(decision, l.decisions),
+        place.value as usize,
+    );
+    show::rule(out, 0, 0, r)
+}
+
+// `list`, `place` and `rule`: the list is shown as it is then.
+fn put_rule(s: &[u8], from: usize, out: &mut [u8]) -> usize {
     let mut care_space = [0u64; 4112];
     let mut value_space = [0u64; 4112];
     let mut decision_space = [0u16; 4112];
     let all_care: &mut [u64] = &mut care_space;
     let all_value: &mut [u64] = &mut value_space;
     let all_decision: &mut [u16] = &mut decision_space;
-    let care = slices::words_mut(all_care, p.cares);
-    let value = slices::words_mut(all_value, p.values);
-    let decision = slices::halves_mut(all_decision, p.decisions);
-    slices::fill_words(s, p.care_at, care);
-    slices::fill_words(s, p.value_at, value);
-    slices::fill_halves(s, p.decision_at, decision);
-    rules::put_rule(
-        care,
-        value,
-        decision,
-        word(s, p.end) as usize,
-        rule(s, skip(p.end, 8)),
+    let l = given::list(
+        s,
+        after(s, from, b"list"),
+        all_care,
+        all_value,
+        all_decision,
     );
-    show::words(care);
-    show::words(value);
-    show::halves(decision);
+    let place = named(s, l.at, b"place", 18446744073709551615);
+    let mut one_care = [0u64; 1];
+    let mut one_value = [0u64; 1];
+    let mut one_decision = [0u16; 1];
+    let end = ended(
+        s,
+        given::some_rules(
+            s,
+            place.at,
+            b"rule",
+            1,
+            &mut one_care,
+            &mut one_value,
+            &mut one_decision,
+        ),
+    );
+    if is_bad(end) {
+        return end;
+    }
+    let rule = rules::rule_at(&one_care, &one_value, &one_decision, 0);
+    let care = slices::words_mut(all_care, l.cares);
+    let value = slices::words_mut(all_value, l.values);
+    let decision = slices::halves_mut(all_decision, l.decisions);
+    rules::put_rule(care, value, decision, place.value as usize, rule);
+    show::list(out, 0, b"list ", 0, care, value, decision)
 }

@@ -1,78 +1,104 @@
-// The cases of weaving: cutting a list into runs, and weaving it.
-use crate::numbers::count;
-use crate::numbers::skip;
+// The calls that cut and weave a list: the crate `weaving`.
+use crate::given;
 use crate::show;
 use crate::slices;
+use crate::source::after;
+use crate::source::ended;
+use crate::source::is_bad;
 use weaving::Counted;
 use weaving::Woven;
 
-// The cases over a list; what follows the list in the case stands at `at`.
+fn show_counted(out: &mut [u8], c: Counted) -> usize {
+    match c {
+        Counted::Runs(n) => show::number(out, 0, n as u64),
+        Counted::Refused(x) => show::refusal(out, 0, x),
+    }
+}
+
+fn show_woven(out: &mut [u8], w: Woven) -> usize {
+    match w {
+        Woven::Done(t) => {
+            let kept = show::named(out, 0, b"kept ", t.kept as u64);
+            let dropped = show::named(out, kept, b" dropped ", t.dropped as u64);
+            show::named(out, dropped, b" merged ", t.merged as u64)
+        }
+        Woven::Refused(x) => show::refusal(out, 0, x),
+    }
+}
+
+// The calls that have a width and a list; `at` is the position after these.
 pub fn on_list(
-    kind: u8,
+    name: &[u8],
     s: &[u8],
     at: usize,
     width: u32,
     care: &[u64],
     value: &[u64],
     decision: &[u16],
-) {
-    if kind == 32 {
-        cut(count(s, at), width, care, value, decision);
-    } else if kind == 33 {
-        weave(s, at, width, care, value, decision);
+    out: &mut [u8],
+) -> usize {
+    if check::same(name, b"runs") {
+        return cut(s, at, width, care, value, decision, out);
     }
+    weave(s, at, width, care, value, decision, out)
 }
 
-fn show_counted(c: Counted) {
-    match c {
-        Counted::Runs(n) => show::number(n as u64),
-        Counted::Refused(x) => show::refusal(x),
-    }
-}
-
-fn show_woven(w: Woven) {
-    match w {
-        Woven::Done(t) => {
-            show::number(t.kept as u64);
-            show::number(t.dropped as u64);
-            show::number(t.merged as u64);
-        }
-        Woven::Refused(x) => show::refusal(x),
-    }
-}
-
-fn cut(length: usize, width: u32, care: &[u64], value: &[u64], decision: &[u16]) {
+// `into`: the slice that takes the sizes.
+fn cut(
+    s: &[u8],
+    at: usize,
+    width: u32,
+    care: &[u64],
+    value: &[u64],
+    decision: &[u16],
+    out: &mut [u8],
+) -> usize {
     let mut space = [0u16; 4112];
     let all: &mut [u16] = &mut space;
-    let sizes = slices::halves_mut(all, length);
-    slices::mark_halves(sizes);
-    show_counted(weaving::runs(width, care, value, decision, sizes));
-    show::halves(sizes);
+    let f = given::halves(s, at, b"into", all);
+    let end = ended(s, f.at);
+    if is_bad(end) {
+        return end;
+    }
+    let sizes = slices::halves_mut(all, f.count);
+    let c = weaving::runs(width, care, value, decision, sizes);
+    let answer = show_counted(out, c);
+    show::halves(out, answer, b" into ", sizes)
 }
 
-fn weave(s: &[u8], at: usize, width: u32, care: &[u64], value: &[u64], decision: &[u16]) {
+// `into`: the list that takes the woven rules.
+fn weave(
+    s: &[u8],
+    at: usize,
+    width: u32,
+    care: &[u64],
+    value: &[u64],
+    decision: &[u16],
+    out: &mut [u8],
+) -> usize {
     let mut care_space = [0u64; 4112];
     let mut value_space = [0u64; 4112];
     let mut decision_space = [0u16; 4112];
     let all_care: &mut [u64] = &mut care_space;
     let all_value: &mut [u64] = &mut value_space;
     let all_decision: &mut [u16] = &mut decision_space;
-    let out_care = slices::words_mut(all_care, count(s, at));
-    let out_value = slices::words_mut(all_value, count(s, skip(at, 2)));
-    let out_decision = slices::halves_mut(all_decision, count(s, skip(at, 4)));
-    slices::mark_words(out_care);
-    slices::mark_words(out_value);
-    slices::mark_halves(out_decision);
-    show_woven(weaving::weave(
+    let l = given::list(s, after(s, at, b"into"), all_care, all_value, all_decision);
+    let end = ended(s, l.at);
+    if is_bad(end) {
+        return end;
+    }
+    let to_care = slices::words_mut(all_care, l.cares);
+    let to_value = slices::words_mut(all_value, l.values);
+    let to_decision = slices::halves_mut(all_decision, l.decisions);
+    let w = weaving::weave(width, care, value, decision, to_care, to_value, to_decision);
+    let answer = show_woven(out, w);
+    show::list(
+        out,
+        answer,
+        b" into ",
         width,
-        care,
-        value,
-        decision,
-        out_care,
-        out_value,
-        out_decision,
-    ));
-    show::words(out_care);
-    show::words(out_value);
-    show::halves(out_decision);
+        to_care,
+        to_value,
+        to_decision,
+    )
 }

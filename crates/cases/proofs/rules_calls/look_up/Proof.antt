@@ -1,31 +1,33 @@
 use borrow.Author.Needs.{needs}
+use lib.ListN.{length}
+use Prim.Native.Nat.{_-_}
+use mathlib.Core.Path.{_≡_, _∙_}
 use Rattle.cases.proofs.rules_calls.look_up.Statement.{statement}
 use Rattle.cases.proofs.rules_calls.look_up.Tie as tie
 use Rattle.cases.proofs.rules_calls.look_up.Reads as reads
 use Rattle.cases.proofs.rules_calls.look_up.Lts as lts
-use Rattle.cases.proofs.numbers.count.Reads as count-reads
-use Rattle.cases.proofs.numbers.skip.Reads as skip-reads
-use Rattle.cases.proofs.numbers.word.Reads as word-reads
+use Rattle.cases.proofs.show.between.Reads as between-reads
 use Rattle.cases.proofs.show.looked.Reads as looked-reads
+use Rattle.cases.proofs.slices.word_at.Reads as word-at-reads
 use Rattle.rules.proofs.lookup.Reads as lookup-reads
 
 abbrev Inv-loop : tie.InvT-loop
-Inv-loop s at width care value decision left₀ from₀ left from = Unit {0}
+Inv-loop width care value decision headers out₀ at₀ i₀ t10 out at i = length out ≡ length out₀
 
 abbrev μ-loop : tie.MeasureT-loop
-μ-loop s at width care value decision left₀ from₀ left from = left
-
-count-requires : tie.Need-count-requires Inv-loop μ-loop
-count-requires c κs = search needs
-
-skip-requires : tie.Need-skip-requires Inv-loop μ-loop
-skip-requires c κs = search needs
+μ-loop width care value decision headers out₀ at₀ i₀ t10 out at i = length headers - i
 
 loop-holds : tie.Need-loop-holds Inv-loop μ-loop
 loop-holds c = search needs
 
-word-requires : tie.Need-word-requires Inv-loop μ-loop
-word-requires c κs = search needs
+slice-aggregate-between : tie.Need-slice-aggregate-between Inv-loop μ-loop
+slice-aggregate-between c = search needs
+
+between-requires : tie.Need-between-requires Inv-loop μ-loop
+between-requires c κs = search needs
+
+word-at-requires : tie.Need-word-at-requires Inv-loop μ-loop
+word-at-requires c κs = search needs
 
 lookup-requires : tie.Need-lookup-requires Inv-loop μ-loop
 lookup-requires c κs = search needs
@@ -33,17 +35,17 @@ lookup-requires c κs = search needs
 looked-requires : tie.Need-looked-requires Inv-loop μ-loop
 looked-requires c κs = search needs
 
-skip-requires-2 : tie.Need-skip-requires-2 Inv-loop μ-loop
-skip-requires-2 c κs = search needs
-
-sub-left : tie.Need-sub-left Inv-loop μ-loop
-sub-left c = search needs
+add-i : tie.Need-add-i Inv-loop μ-loop
+add-i c = search needs
 
 loop-less : tie.Need-loop-less Inv-loop μ-loop
 loop-less c = search needs
 
 loop-again : tie.Need-loop-again Inv-loop μ-loop
 loop-again c = search needs
+
+same-length : tie.Need-same-length Inv-loop μ-loop
+same-length c = search needs
 
 returns : tie.Need-returns Inv-loop μ-loop
 returns c = search needs
@@ -54,14 +56,14 @@ look-up-spec =
     (tie.spec
     Inv-loop
     μ-loop
-    count-requires
-    skip-requires
     loop-holds
-    word-requires
+    slice-aggregate-between
+    between-requires
+    word-at-requires
     lookup-requires
     looked-requires
-    skip-requires-2
-    sub-left
+    add-i
     loop-less
     loop-again
+    same-length
     returns)

@@ -1,0 +1,113 @@
+use borrow.Author.Needs.{needs}
+use lib.ListN.{length}
+use mathlib.Core.Path.{_≡_, _∙_}
+use Rattle.cases.proofs.given.rules_in.Statement.{statement}
+use Rattle.cases.proofs.given.rules_in.Tie as tie
+use Rattle.cases.proofs.given.rules_in.Reads as reads
+use Rattle.cases.proofs.given.rules_in.Lts as lts
+use Rattle.cases.proofs.given.put_rule.Reads as put-rule-reads
+use Rattle.cases.proofs.source.bad.Reads as bad-reads
+use Rattle.cases.proofs.source.bracket.Reads as bracket-reads
+use Rattle.cases.proofs.source.is_bad.Reads as is-bad-reads
+use Rattle.cases.proofs.source.is_closed.Reads as is-closed-reads
+
+abbrev Inv-loop : tie.InvT-loop
+Inv-loop s from care₀ value₀ decision₀ at₀ count₀ left₀ care value decision at count left = (length care ≡ length care₀) × (length value ≡ length value₀) × (length decision ≡ length decision₀)
+
+abbrev μ-loop : tie.MeasureT-loop
+μ-loop s from care₀ value₀ decision₀ at₀ count₀ left₀ care value decision at count left = left
+
+bracket-requires : tie.Need-bracket-requires Inv-loop μ-loop
+bracket-requires c κs = search needs
+
+loop-holds : tie.Need-loop-holds Inv-loop μ-loop
+loop-holds c = search needs
+
+sub-left : tie.Need-sub-left Inv-loop μ-loop
+sub-left c = search needs
+
+is-bad-requires : tie.Need-is-bad-requires Inv-loop μ-loop
+is-bad-requires c κs = search needs
+
+same-length : tie.Need-same-length Inv-loop μ-loop
+same-length c = search needs
+
+same-length-2 : tie.Need-same-length-2 Inv-loop μ-loop
+same-length-2 c = search needs
+
+same-length-3 : tie.Need-same-length-3 Inv-loop μ-loop
+same-length-3 c = search needs
+
+returns : tie.Need-returns Inv-loop μ-loop
+returns c = search needs
+
+is-closed-requires : tie.Need-is-closed-requires Inv-loop μ-loop
+is-closed-requires c κs = search needs
+
+bracket-requires-2 : tie.Need-bracket-requires-2 Inv-loop μ-loop
+bracket-requires-2 c κs = search needs
+
+same-length-4 : tie.Need-same-length-4 Inv-loop μ-loop
+same-length-4 c = search needs
+
+same-length-5 : tie.Need-same-length-5 Inv-loop μ-loop
+same-length-5 c = search needs
+
+same-length-6 : tie.Need-same-length-6 Inv-loop μ-loop
+same-length-6 c = search needs
+
+returns-2 : tie.Need-returns-2 Inv-loop μ-loop
+returns-2 c = search needs
+
+put-rule-requires : tie.Need-put-rule-requires Inv-loop μ-loop
+put-rule-requires c κs = search needs
+
+loop-less : tie.Need-loop-less Inv-loop μ-loop
+loop-less c = search needs
+
+loop-again : tie.Need-loop-again Inv-loop μ-loop
+loop-again c = search needs
+
+bad-requires : tie.Need-bad-requires Inv-loop μ-loop
+bad-requires c κs = search needs
+
+same-length-7 : tie.Need-same-length-7 Inv-loop μ-loop
+same-length-7 c = search needs
+
+same-length-8 : tie.Need-same-length-8 Inv-loop μ-loop
+same-length-8 c = search needs
+
+same-length-9 : tie.Need-same-length-9 Inv-loop μ-loop
+same-length-9 c = search needs
+
+returns-3 : tie.Need-returns-3 Inv-loop μ-loop
+returns-3 c = search needs
+
+pub rules-in-spec : {M : Type 1} → statement M
+rules-in-spec =
+    tie.close
+    (tie.spec
+    Inv-loop
+    μ-loop
+    bracket-requires
+    loop-holds
+    sub-left
+    is-bad-requires
+    same-length
+    same-length-2
+    same-length-3
+    returns
+    is-closed-requires
+    bracket-requires-2
+    same-length-4
+    same-length-5
+    same-length-6
+    returns-2
+    put-rule-requires
+    loop-less
+    loop-again
+    bad-requires
+    same-length-7
+    same-length-8
+    same-length-9
+    returns-3)

@@ -1,0 +1,66 @@
+use borrow.Author.Needs.{needs}
+use lib.ListN.{length}
+use Prim.Native.Nat.{_-_}
+use Rattle.cases.proofs.source.word_end.Statement.{statement}
+use Rattle.cases.proofs.source.word_end.Tie as tie
+use Rattle.cases.proofs.source.word_end.Reads as reads
+use Rattle.cases.proofs.source.word_end.Lts as lts
+use Rattle.cases.proofs.source.is_bracket.Reads as is-bracket-reads
+use Rattle.cases.proofs.source.is_space.Reads as is-space-reads
+
+abbrev Inv-loop : tie.InvT-loop
+Inv-loop s from at₀ at = Unit {0}
+
+abbrev μ-loop : tie.MeasureT-loop
+μ-loop s from at₀ at = length s - at
+
+loop-holds : tie.Need-loop-holds Inv-loop μ-loop
+loop-holds c = search needs
+
+shared-slice-read-is-space : tie.Need-shared-slice-read-is-space Inv-loop μ-loop
+shared-slice-read-is-space c = search needs
+
+is-space-requires : tie.Need-is-space-requires Inv-loop μ-loop
+is-space-requires c κs = search needs
+
+returns : tie.Need-returns Inv-loop μ-loop
+returns c = search needs
+
+shared-slice-read-is-bracket : tie.Need-shared-slice-read-is-bracket Inv-loop μ-loop
+shared-slice-read-is-bracket c = search needs
+
+is-bracket-requires : tie.Need-is-bracket-requires Inv-loop μ-loop
+is-bracket-requires c κs = search needs
+
+returns-2 : tie.Need-returns-2 Inv-loop μ-loop
+returns-2 c = search needs
+
+add-at : tie.Need-add-at Inv-loop μ-loop
+add-at c = search needs
+
+loop-less : tie.Need-loop-less Inv-loop μ-loop
+loop-less c = search needs
+
+loop-again : tie.Need-loop-again Inv-loop μ-loop
+loop-again c = search needs
+
+returns-3 : tie.Need-returns-3 Inv-loop μ-loop
+returns-3 c = search needs
+
+pub word-end-spec : {M : Type 1} → statement M
+word-end-spec =
+    tie.close
+    (tie.spec
+    Inv-loop
+    μ-loop
+    loop-holds
+    shared-slice-read-is-space
+    is-space-requires
+    returns
+    shared-slice-read-is-bracket
+    is-bracket-requires
+    returns-2
+    add-at
+    loop-less
+    loop-again
+    returns-3)

@@ -1,0 +1,406 @@
+// What a case hands to a call: slices of numbers, lists of rules, and the slices of a comparison's runs.
+use crate::slices;
+use crate::source::Taken;
+use crate::source::after;
+use crate::source::bad;
+use crate::source::bracket;
+use crate::source::byte_from;
+use crate::source::is_bad;
+use crate::source::is_closed;
+use crate::source::is_next;
+use crate::source::next;
+use crate::source::number;
+use crate::source::number_in;
+use crate::source::part;
+use crate::source::word_end;
+use crate::source::word_start;
+use rules::Rule;
+
+// How many places were filled, and the position after what was read.
+pub struct Filled {
+    pub count: usize,
+    pub at: usize,
+}
+
+// How many times what follows is meant, and where that starts: `3 times` before it, or once.
+fn times(s: &[u8], from: usize) -> Taken {
+    let at = word_start(s, from);
+    if is_next(s, word_end(s, at), b"times") {
+        let n = number(s, at, 100000);
+        return Taken {
+            value: n.value,
+            at: after(s, n.at, b"times"),
+        };
+    }
+    Taken { value: 1, at }
+}
+
+// Where so many more places end, or a bad position where the slice has not so many.
+fn room(count: usize, more: u64, length: usize, at: usize) -> usize {
+    if count <= length {
+        if more <= (length - count) as u64 {
+            return at;
+        }
+    }
+    bad(at)
+}
+
+// What follows a number of a slice: itself, the next number, or what is left of it above its lowest byte.
+enum Way {
+    Same,
+    Up,
+    Bytes,
+}
+
+fn first_of(x: u64, way: Way) -> u64 {
+    match way {
+        Way::Same => x,
+        Way::Up => x,
+        Way::Bytes => x % 256,
+    }
+}
+
+fn rest_of(x: u64, way: Way) -> u64 {
+    match way {
+        Way::Same => x,
+        Way::Up => std::num::wrapping_add_u64(x, 1),
+        Way::Bytes => x / 256,
+    }
+}
+
+// Some numbers of a slice: how many, the first, and how they go on.
+struct Item {
+    value: u64,
+    times: u64,
+    way: Way,
+    at: usize,
+}
+
+// `12:4`: a number in so many bytes, the lowest first. Only a slice of bytes has it.
+fn in_bytes(s: &[u8], from: usize, colon: usize, end: usize, most: u64) -> Item {
+    let x = number_in(s, from, colon, 18446744073709551615);
+    let n = number_in(s, next(colon), end, 16);
+    if most == 255 {
+        if !is_bad(x.at) {
+            return Item {
+                value: x.value,
+                times: n.value,
+                way: Way::Bytes,
+                at: n.at,
+            };
+        }
+    }
+    Item {
+        value: 0,
+        times: 0,
+        way: Way::Bytes,
+        at: bad(from),
+    }
+}
+
+// `2 to 9`: each number from the first to the last.
+fn counted_up(s: &[u8], first: u64, at: usize, most: u64) -> Item {
+    let last = number(s, after(s, at, b"to"), most);
+    if first <= last.value {
+        return Item {
+            value: first,
+            times: std::num::wrapping_add_u64(last.value - first, 1),
+            way: Way::Up,
+            at: last.at,
+        };
+    }
+    Item {
+        value: 0,
+        times: 0,
+        way: Way::Up,
+        at: bad(at),
+    }
+}
+
+fn next_item(s: &[u8], from: usize, most: u64) -> Item {
+    let t = times(s, from);
+    let at = word_start(s, t.at);
+    let end = word_end(s, at);
+    let colon = byte_from(s, at, end, 58);
+    if colon < end {
+        return in_bytes(s, at, colon, end, most);
+    }
+    let n = number_in(s, at, end, most);
+    if is_next(s, end, b"to") {
+        return counted_up(s, n.value, end, most);
+    }
+    Item {
+        value: n.value,
+        times: t.value,
+        way: Way::Same,
+        at: n.at,
+    }
+}
+
+// Puts so many numbers into the places from `from` on.
+fn put_numbers(out: &mut [u64], from: usize, value: u64, times: u64, way: Way) -> usize {
+    let mut x = value;
+    let mut i = from;
+    let mut left = times;
+    while left > 0 {
+        slices::put_word(out, i, first_of(x, way));
+        x = rest_of(x, way);
+        i = next(i);
+        left -= 1;
+    }
+    i
+}
+
+// Reads the next item into the places from `count` on.
+fn put_item(s: &[u8], at: usize, most: u64, out: &mut [u64], count: usize) -> Filled {
+    let x = next_item(s, at, most);
+    let end = room(count, x.times, out.len(), x.at);
+    if is_bad(end) {
+        return Filled { count, at: end };
+    }
+    let way = x.way;
+    let n = put_numbers(out, count, x.value, x.times, way);
+    Filled { count: n, at: end }
+}
+
+// The numbers in brackets, each `most` or less, put at the start of `out`.
+pub fn numbers(s: &[u8], from: usize, most: u64, out: &mut [u64]) -> Filled {
+    let mut at = bracket(s, from, 91);
+    let mut count = 0;
+    let mut left = s.len();
+    while left > 0 {
+        left -= 1;
+        if is_bad(at) {
+            return Filled { count: 0, at };
+        }
+        if is_closed(s, at) {
+            return Filled {
+                count,
+                at: bracket(s, at, 93),
+            };
+        }
+        let f = put_item(s, at, most, out, count);
+        at = f.at;
+        count = f.count;
+    }
+    Filled {
+        count: 0,
+        at: bad(at),
+    }
+}
+
+// An argument that is a slice: its name, then its numbers.
+pub fn words(s: &[u8], from: usize, name: &[u8], out: &mut [u64]) -> Filled {
+    numbers(s, after(s, from, name), 18446744073709551615, out)
+}
+
+pub fn halves(s: &[u8], from: usize, name: &[u8], out: &mut [u16]) -> Filled {
+    let mut space = [0u64; 4112];
+    let wide: &mut [u64] = &mut space;
+    let f = numbers(s, after(s, from, name), 65535, wide);
+    let end = room(0, f.count as u64, out.len(), f.at);
+    slices::to_halves(slices::words(wide, f.count), out);
+    Filled {
+        count: f.count,
+        at: end,
+    }
+}
+
+pub fn bytes(s: &[u8], from: usize, name: &[u8], out: &mut [u8]) -> Filled {
+    let mut space = [0u64; 65600];
+    let wide: &mut [u64] = &mut space;
+    let f = numbers(s, after(s, from, name), 255, wide);
+    let end = room(0, f.count as u64, out.len(), f.at);
+    slices::to_bytes(slices::words(wide, f.count), out);
+    Filled {
+        count: f.count,
+        at: end,
+    }
+}
+
+// A rule, and the position after it.
+struct Ruled {
+    rule: Rule,
+    at: usize,
+}
+
+fn rule_of(care: u64, value: u64, decision: u64, at: usize) -> Ruled {
+    Ruled {
+        rule: Rule {
+            care,
+            value,
+            decision: (decision % 65536) as u16,
+        },
+        at,
+    }
+}
+
+// The care word and the value word of a pattern, by place: `0` and `1` are cared for, `*` is not.
+fn pattern(s: &[u8], from: usize, end: usize) -> Ruled {
+    let word = part(s, from, end);
+    if word.len() > 64 {
+        return rule_of(0, 0, 0, bad(from));
+    }
+    let mut care: u64 = 0;
+    let mut value: u64 = 0;
+    let mut i = 0;
+    while i < word.len() {
+        let b = word[i];
+        if b != 42 && b != 48 && b != 49 {
+            return rule_of(0, 0, 0, bad(from));
+        }
+        care = care << 1 | place(b != 42);
+        value = value << 1 | place(b == 49);
+        i += 1;
+    }
+    rule_of(care, value, 0, end)
+}
+
+fn place(set: bool) -> u64 {
+    if set { 1 } else { 0 }
+}
+
+// A pattern, or the two words themselves as `care/value`, and then the decision.
+fn rule(s: &[u8], from: usize) -> Ruled {
+    let at = word_start(s, from);
+    let end = word_end(s, at);
+    let slash = byte_from(s, at, end, 47);
+    if slash < end {
+        let care = number_in(s, at, slash, 18446744073709551615);
+        let value = number_in(s, next(slash), end, 18446744073709551615);
+        if is_bad(care.at) {
+            return rule_of(0, 0, 0, care.at);
+        }
+        let decision = number(s, value.at, 65535);
+        return rule_of(care.value, value.value, decision.value, decision.at);
+    }
+    let p = pattern(s, at, end);
+    let decision = number(s, p.at, 65535);
+    let r = p.rule;
+    rule_of(r.care, r.value, decision.value, decision.at)
+}
+
+fn put_rules(
+    care: &mut [u64],
+    value: &mut [u64],
+    decision: &mut [u16],
+    from: usize,
+    rule: Rule,
+    times: u64,
+) -> usize {
+    let mut i = from;
+    let mut left = times;
+    while left > 0 {
+        rules::put_rule(care, value, decision, i, rule);
+        i = next(i);
+        left -= 1;
+    }
+    i
+}
+
+fn put_rule(
+    s: &[u8],
+    at: usize,
+    care: &mut [u64],
+    value: &mut [u64],
+    decision: &mut [u16],
+    count: usize,
+) -> Filled {
+    let t = times(s, at);
+    let r = rule(s, t.at);
+    let end = room(count, t.value, care.len(), r.at);
+    if is_bad(end) {
+        return Filled { count, at: end };
+    }
+    let n = put_rules(care, value, decision, count, r.rule, t.value);
+    Filled { count: n, at: end }
+}
+
+// The rules in brackets, put at the start of three slices of one length.
+fn rules_in(
+    s: &[u8],
+    from: usize,
+    care: &mut [u64],
+    value: &mut [u64],
+    decision: &mut [u16],
+) -> Filled {
+    let mut at = bracket(s, from, 91);
+    let mut count = 0;
+    let mut left = s.len();
+    while left > 0 {
+        left -= 1;
+        if is_bad(at) {
+            return Filled { count: 0, at };
+        }
+        if is_closed(s, at) {
+            return Filled {
+                count,
+                at: bracket(s, at, 93),
+            };
+        }
+        let f = put_rule(s, at, care, value, decision, count);
+        at = f.at;
+        count = f.count;
+    }
+    Filled {
+        count: 0,
+        at: bad(at),
+    }
+}
+
+// How long the three slices of a list are, and the position after it.
+pub struct Lengths {
+    pub cares: usize,
+    pub values: usize,
+    pub decisions: usize,
+    pub at: usize,
+}
+
+// A list: its rules in brackets, or the three slices `care`, `value` and `decision`.
+pub fn list(
+    s: &[u8],
+    at: usize,
+    care: &mut [u64],
+    value: &mut [u64],
+    decision: &mut [u16],
+) -> Lengths {
+    if is_next(s, at, b"care") {
+        let c = words(s, at, b"care", care);
+        let v = words(s, c.at, b"value", value);
+        let d = halves(s, v.at, b"decision", decision);
+        return Lengths {
+            cares: c.count,
+            values: v.count,
+            decisions: d.count,
+            at: d.at,
+        };
+    }
+    let f = rules_in(s, at, care, value, decision);
+    Lengths {
+        cares: f.count,
+        values: f.count,
+        decisions: f.count,
+        at: f.at,
+    }
+}
+
+// An argument that is so many rules in brackets.
+pub fn some_rules(
+    s: &[u8],
+    from: usize,
+    name: &[u8],
+    count: usize,
+    care: &mut [u64],
+    value: &mut [u64],
+    decision: &mut [u16],
+) -> usize {
+    let l = list(s, after(s, from, name), care, value, decision);
+    if l.cares == count {
+        if l.values == count {
+            if l.decisions == count {
+                return l.at;
+            }
+        }
+    }
+    bad(l.at)
+}

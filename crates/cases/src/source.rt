@@ -1,0 +1,157 @@
+// The text of a case, read from left to right. A position in it is a number. One that could not be read at a position goes on as
+// `bad` of that position, at which nothing can be read either: so only the last position of a case has to be looked at.
+use text::Number;
+
+pub fn byte(s: &[u8], at: usize) -> u8 {
+    if at < s.len() { s[at] } else { 0 }
+}
+
+// The position before which a text could be read, and no further.
+pub fn bad(at: usize) -> usize {
+    if at < 1099511627776 {
+        at + 1099511627776
+    } else {
+        at
+    }
+}
+
+pub fn is_bad(at: usize) -> bool {
+    at >= 1099511627776
+}
+
+pub fn next(at: usize) -> usize {
+    if at < 1099511627776 { at + 1 } else { at }
+}
+
+// A space, a line end, or a comma, which is there for people.
+fn is_space(b: u8) -> bool {
+    b == 32 || b == 10 || b == 44
+}
+
+fn is_bracket(b: u8) -> bool {
+    b == 91 || b == 93
+}
+
+// Where the next word or bracket starts.
+pub fn word_start(s: &[u8], from: usize) -> usize {
+    let mut at = from;
+    while at < s.len() {
+        if !is_space(s[at]) {
+            return at;
+        }
+        at += 1;
+    }
+    at
+}
+
+// Where the word that starts here has ended.
+pub fn word_end(s: &[u8], from: usize) -> usize {
+    let mut at = from;
+    while at < s.len() {
+        if is_space(s[at]) {
+            return at;
+        }
+        if is_bracket(s[at]) {
+            return at;
+        }
+        at += 1;
+    }
+    at
+}
+
+// Where this byte stands in a part of the text, or the part's end.
+pub fn byte_from(s: &[u8], from: usize, end: usize, b: u8) -> usize {
+    let mut at = from;
+    while at < end {
+        if byte(s, at) == b {
+            return at;
+        }
+        at += 1;
+    }
+    end
+}
+
+// A part of the text; empty where there is no such part.
+pub fn part(s: &[u8], from: usize, end: usize) -> &[u8] {
+    if from <= end {
+        if end <= s.len() {
+            return &s[from..end];
+        }
+    }
+    &s[..0]
+}
+
+// Whether the next word is this one.
+pub fn is_next(s: &[u8], from: usize, word: &[u8]) -> bool {
+    let at = word_start(s, from);
+    check::same(part(s, at, word_end(s, at)), word)
+}
+
+// The position after the next word, which has to be this one.
+pub fn after(s: &[u8], from: usize, word: &[u8]) -> usize {
+    if is_next(s, from, word) {
+        return word_end(s, word_start(s, from));
+    }
+    bad(from)
+}
+
+// The position after a bracket.
+pub fn bracket(s: &[u8], from: usize, b: u8) -> usize {
+    let at = word_start(s, from);
+    if byte(s, at) == b {
+        return next(at);
+    }
+    bad(at)
+}
+
+pub fn is_closed(s: &[u8], from: usize) -> bool {
+    byte(s, word_start(s, from)) == 93
+}
+
+// The position, where nothing is left to read.
+pub fn ended(s: &[u8], from: usize) -> usize {
+    let at = word_start(s, from);
+    if at < s.len() {
+        return bad(at);
+    }
+    from
+}
+
+// A number, and the position after it.
+pub struct Taken {
+    pub value: u64,
+    pub at: usize,
+}
+
+// What a word stands for; `none` is 65,535, which stands for no match.
+fn meant(word: &[u8]) -> Number {
+    if check::same(word, b"none") {
+        return Number::Value(65535);
+    }
+    text::read_number(word)
+}
+
+// The number in a part of the text, which may be `most` and no larger.
+pub fn number_in(s: &[u8], from: usize, end: usize, most: u64) -> Taken {
+    let n = meant(part(s, from, end));
+    if let Number::Value(x) = n {
+        if x <= most {
+            return Taken { value: x, at: end };
+        }
+    }
+    Taken {
+        value: 0,
+        at: bad(from),
+    }
+}
+
+// The next word as a number.
+pub fn number(s: &[u8], from: usize, most: u64) -> Taken {
+    let at = word_start(s, from);
+    number_in(s, at, word_end(s, at), most)
+}
+
+// An argument that is a number: its name, then the number.
+pub fn named(s: &[u8], from: usize, name: &[u8], most: u64) -> Taken {
+    number(s, after(s, from, name), most)
+}

@@ -1,0 +1,486 @@
+"""Cases as text: what docs/CASES.md says of their form, and what the model answers to them.
+
+    answers.py FILE..
+
+writes each file's remarks and cases with the model's answer beside each case, whatever answer stood there. A case that cannot
+be read is an error.
+"""
+import re
+import sys
+
+import model
+from model import Refused, Swap
+
+
+class Unreadable(Exception):
+    pass
+
+
+# Reading. ---------------------------------------------------------------------------------------------------------------
+
+
+class Words:
+    """The words and brackets of a case, taken from the left."""
+
+    def __init__(self, text):
+        self.left = re.findall(r"[\[\]]|[^\s,\[\]]+", text)[::-1]
+
+    def next(self):
+        return self.left[-1] if self.left else ""
+
+    def take(self):
+        if not self.left:
+            raise Unreadable("something is missing")
+        return self.left.pop()
+
+    def expect(self, word):
+        if self.next() != word:
+            raise Unreadable("%s in place of %s" % (self.next(), word))
+        self.take()
+
+    def number(self, name=None, most=2**64 - 1):
+        if name:
+            self.expect(name)
+        return number_of(self.take(), most)
+
+    def times(self):
+        """How often what follows is meant."""
+        if len(self.left) > 1 and self.left[-2] == "times":
+            count = self.number()
+            self.expect("times")
+            return count
+        return 1
+
+    def numbers(self, name=None, most=2**64 - 1):
+        """A slice of numbers."""
+        if name:
+            self.expect(name)
+        self.expect("[")
+        found = []
+        while self.next() != "]":
+            times = self.times()
+            word = self.take()
+            if ":" in word and most == 255:
+                number, size = word.split(":")
+                found += number_of(number, 2**128 - 1).to_bytes(number_of(size, 16), "little")
+            elif self.next() == "to":
+                self.expect("to")
+                found += range(number_of(word, most), self.number(None, most) + 1)
+            else:
+                found += [number_of(word, most)] * times
+        self.expect("]")
+        return found
+
+    def bytes(self, name):
+        return bytes(self.numbers(name, 255))
+
+    def rule(self):
+        word = self.take()
+        if "/" in word:
+            care, value = (number_of(x, 2**64 - 1) for x in word.split("/"))
+        elif re.fullmatch("[01*]{1,64}", word):
+            care, value = model.care_word(word), model.value_word(word)
+        else:
+            raise Unreadable("no rule: " + word)
+        return care, value, self.number(None, 65535)
+
+    def list(self, name):
+        """Three slices: rules in brackets, or each slice by itself."""
+        self.expect(name)
+        if self.next() == "care":
+            return [self.numbers("care"), self.numbers("value"), self.numbers("decision", 65535)]
+        self.expect("[")
+        rules = []
+        while self.next() != "]":
+            times = self.times()
+            rules += [self.rule()] * times
+        self.expect("]")
+        return [[rule[k] for rule in rules] for k in range(3)]
+
+    def rules(self, name, count):
+        list = self.list(name)
+        if [len(slice) for slice in list] != [count] * 3:
+            raise Unreadable("so many rules are not meant: %s" % name)
+        return [rule for rule in zip(*list)]
+
+    def runs(self):
+        """The four result slices of a comparison."""
+        self.expect("into")
+        if self.next() == "first":
+            sides = [("first", 2**64 - 1), ("last", 2**64 - 1), ("old", 65535), ("new", 65535)]
+            return [self.numbers(name, most) for name, most in sides]
+        all = self.numbers()
+        if len(all) % 4:
+            raise Unreadable("a run has four numbers")
+        return [all[k::4] for k in range(4)]
+
+    def swap(self):
+        width = self.number("swap", 2**32 - 1)
+        places = self.numbers(None, 255)
+        return Swap(places + [0] * (64 - len(places)), width)
+
+    def width(self):
+        return self.number("width", 2**32 - 1)
+
+
+def number_of(word, most):
+    if word == "none":
+        return model.NO_MATCH
+    if not re.fullmatch("[0-9]+|0x[0-9a-fA-F]+", word):
+        raise Unreadable("no number: " + word)
+    number = int(word, 16 if word.startswith("0x") else 10)
+    if number > most:
+        raise Unreadable("too large: " + word)
+    return number
+
+
+# Answers. ---------------------------------------------------------------------------------------------------------------
+
+
+def refused(refusal):
+    return "refused %d at %d %d" % (refusal.number, refusal.list, refusal.rule)
+
+
+def said(call, *arguments):
+    """The answer as text; a call that answers nothing says `fine`."""
+    try:
+        answer = call(*arguments)
+    except Refused as refusal:
+        return refused(refusal)
+    if answer is None:
+        return "fine"
+    if isinstance(answer, bool):
+        return "yes" if answer else "no"
+    return str(answer)
+
+
+def shortened(items, between):
+    """16 or more of the same are said once."""
+    texts, k = [], 0
+    while k < len(items):
+        end = k
+        while end < len(items) and items[end] == items[k]:
+            end += 1
+        if end - k >= 16:
+            texts.append("%d times %s" % (end - k, items[k]))
+            k = end
+        else:
+            texts.append(str(items[k]))
+            k += 1
+    return "[" + between.join(texts) + "]"
+
+
+def numbers_said(slice):
+    return shortened(list(slice), " ")
+
+
+def rule_said(width, rule):
+    try:
+        model.check_rule(width, 1, 1, (rule[0], rule[1], 0))
+        return "%s %d" % (model.pattern(width, rule[0], rule[1]), rule[2])
+    except Refused:
+        return "%d/%d %d" % rule
+
+
+def list_said(width, care, value, decision):
+    if len(care) == len(value) == len(decision):
+        return shortened([rule_said(width, rule) for rule in zip(care, value, decision)], ", ")
+    return "care %s value %s decision %s" % tuple(numbers_said(slice) for slice in (care, value, decision))
+
+
+def swap_said(call, *arguments):
+    """The verdict, and the swap: zeros beside a refusal."""
+    try:
+        swap = call(*arguments)
+    except Refused as refusal:
+        return refused(refusal) + " swap 0 []"
+    places = swap.places[:]
+    while places and places[-1] == 0:
+        places.pop()
+    return "fine swap %d %s" % (swap.width, numbers_said(places))
+
+
+def runs_said(results):
+    if len(set(len(slice) for slice in results)) > 1:
+        return " into first %s last %s old %s new %s" % tuple(numbers_said(slice) for slice in results)
+    none = lambda x: "none" if x == model.NO_MATCH else str(x)
+    return " into [%s]" % ", ".join("%d %d %s %s" % (a, b, none(o), none(n)) for a, b, o, n in zip(*results))
+
+
+def decided(call, *arguments):
+    text = said(call, *arguments)
+    return "none" if text == str(model.NO_MATCH) else text
+
+
+def compared(results, call, *arguments):
+    """The count with its ending, and the four results afterwards."""
+    try:
+        count, more = call(*arguments, *results)
+        text = "%d %s" % (count, "finished" if more is None else "more from %d" % more)
+    except Refused as refusal:
+        text = "0 " + refused(refusal)
+    return text + runs_said(results)
+
+
+# The calls. Each takes its arguments from the words, and answers as text. -----------------------------------------------
+
+
+def check_list(words):
+    width, list = words.width(), words.list("list")
+    return lambda: said(model.check_list, width, *list)
+
+
+def check_list_as(words):
+    width, list, number = words.width(), words.list("list"), words.number("as")
+    return lambda: said(model.check_list, width, *list, number)
+
+
+def lookup(words):
+    width, list, headers = words.width(), words.list("list"), words.numbers("headers")
+    return lambda: ", ".join(decided(model.lookup, width, *list, header) for header in headers)
+
+
+def check_rule(words):
+    width, list, number = words.width(), words.number("list"), words.number("number")
+    (rule,) = words.rules("rule", 1)
+    return lambda: said(model.check_rule, width, list, number, rule)
+
+
+def pair(call):
+    def asked(words):
+        width = words.width()
+        a, b = words.rules("rules", 2)
+        return lambda: said(call, width, a, b)
+
+    return asked
+
+
+def bare_pair(call):
+    """The two calls on words alone: what they answer on good rules, at any width that holds them."""
+
+    def asked(words):
+        a, b = words.rules("rules", 2)
+        return lambda: said(call, 64, a, b)
+
+    return asked
+
+
+def rule_at(words):
+    list, place = words.list("list"), words.number("place")
+    return lambda: "%d/%d %d" % model.rule_at(*list, place)
+
+
+def put_rule(words):
+    list, place = words.list("list"), words.number("place")
+    (rule,) = words.rules("rule", 1)
+
+    def put():
+        model.put_rule(*list, place, rule)
+        return "list " + list_said(0, *list)
+
+    return put
+
+
+def prefix_swap(words):
+    width, list = words.width(), words.list("list")
+    return lambda: swap_said(model.prefix_swap, width, *list)
+
+
+def apply_rule(words):
+    swap = words.swap()
+    (rule,) = words.rules("rule", 1)
+
+    def moved():
+        try:
+            return rule_said(swap.width, model.apply_rule(swap, rule))
+        except Refused as refusal:
+            return refused(refusal)
+
+    return moved
+
+
+def apply(words):
+    swap, header = words.swap(), words.number("header")
+    return lambda: said(model.apply, swap, header)
+
+
+def undo(words):
+    swap, header = words.swap(), words.number("header")
+    return lambda: said(model.undo, swap, header)
+
+
+def invert(words):
+    swap = words.swap()
+    return lambda: swap_said(model.invert, swap)
+
+
+def compose(words):
+    first, second = words.swap(), words.swap()
+    return lambda: swap_said(model.compose, first, second)
+
+
+def runs(words):
+    width, list, sizes = words.width(), words.list("list"), words.numbers("into", 65535)
+    return lambda: said(model.runs, width, *list, sizes) + " into " + numbers_said(sizes)
+
+
+def weave(words):
+    width, list, results = words.width(), words.list("list"), words.list("into")
+
+    def woven():
+        try:
+            text = "kept %d dropped %d merged %d" % model.weave(width, *list, *results)
+        except Refused as refusal:
+            text = refused(refusal)
+        return text + " into " + list_said(width, *results)
+
+    return woven
+
+
+def compare(words):
+    width, old, new = words.width(), words.list("old"), words.list("new")
+    start, results = words.number("start"), words.runs()
+    return lambda: compared(results, model.compare, width, old, new, start)
+
+
+def on_image(call):
+    def asked(words):
+        image = words.bytes("image")
+        return lambda: said(call, image)
+
+    return asked
+
+
+def entry(words):
+    image, number = words.bytes("image"), words.number("number")
+
+    def asked():
+        model.check_image(image)
+        if not 1 <= number <= image[2]:
+            raise Refused(15)
+        _, count, id = model.entry_at(image, number - 1)
+        return "id %d rules %d" % (id, count)
+
+    return lambda: said(asked)
+
+
+def body(words):
+    image, id = words.bytes("image"), words.number("id", 65535)
+
+    def asked():
+        try:
+            offset, size = model.body(image, id)
+        except Refused:
+            return numbers_said(b"")
+        return numbers_said(image[offset : offset + size])
+
+    return asked
+
+
+def body_refusal(words):
+    image, id = words.bytes("image"), words.number("id", 65535)
+    return lambda: said(lambda: model.find(image, id) and None)
+
+
+def read(words):
+    image, id, results = words.bytes("image"), words.number("id", 65535), words.list("into")
+
+    def asked():
+        text = said(model.read, image, id, *results)
+        try:
+            width = model.image_width(image)
+        except Refused:
+            width = 0
+        return text + " into " + list_said(width, *results)
+
+    return asked
+
+
+def write(words):
+    width, list = words.width(), words.list("list")
+    ids, counts, out = words.numbers("ids", 65535), words.numbers("counts", 65535), words.numbers("into", 255)
+    return lambda: said(model.write, width, counts, ids, *list, out) + " into " + numbers_said(out)
+
+
+def compare_lists(words):
+    old, old_id = words.bytes("old"), words.number("id", 65535)
+    new, new_id = words.bytes("new"), words.number("id", 65535)
+    start, results = words.number("start"), words.runs()
+    return lambda: compared(results, model.compare_lists, old, old_id, new, new_id, start)
+
+
+def compare_first(words):
+    old, new, start, results = words.bytes("old"), words.bytes("new"), words.number("start"), words.runs()
+    return lambda: compared(results, model.compare_first, old, new, start)
+
+
+CALLS = {
+    "check_list": check_list,
+    "check_list_as": check_list_as,
+    "lookup": lookup,
+    "lookup_number": lookup,
+    "check_rule": check_rule,
+    "covers": pair(model.covers),
+    "crosses": pair(model.crosses),
+    "distance": pair(model.distance),
+    "rule_covers": bare_pair(model.covers),
+    "rule_crosses": bare_pair(model.crosses),
+    "rule_at": rule_at,
+    "put_rule": put_rule,
+    "prefix_swap": prefix_swap,
+    "lookup_swapped": lookup,
+    "apply_rule": apply_rule,
+    "apply": apply,
+    "undo": undo,
+    "invert": invert,
+    "compose": compose,
+    "runs": runs,
+    "weave": weave,
+    "compare": compare,
+    "check": on_image(model.check_image),
+    "width": on_image(model.image_width),
+    "count": on_image(model.image_count),
+    "entry": entry,
+    "body": body,
+    "body_refusal": body_refusal,
+    "read": read,
+    "write": write,
+    "compare_lists": compare_lists,
+    "compare_first": compare_first,
+}
+
+
+def answer(text):
+    """What the model answers to a case."""
+    words = Words(text)
+    name = words.take()
+    if name not in CALLS:
+        raise Unreadable("no such call: " + name)
+    call = CALLS[name](words)
+    if words.left:
+        raise Unreadable("too much: " + words.next())
+    return call()
+
+
+def answered(text):
+    """The lines of a file, with the model's answers."""
+    lines, case, first = [], [], 0
+    for number, line in enumerate(text.split("\n") + [""], 1):
+        if case and not line.startswith(" "):
+            try:
+                lines += case + ["= " + answer("\n".join(case))]
+            except Unreadable as fault:
+                sys.exit("line %d: %s" % (first, fault))
+            case = []
+        if line == "" or line.startswith("#"):
+            lines.append(line)
+        elif not line.startswith("="):
+            first = number if not case else first
+            case.append(line)
+    return "\n".join(lines[:-1])
+
+
+if __name__ == "__main__":
+    for path in sys.argv[1:]:
+        with open(path) as file:
+            sys.stdout.write(answered(file.read()))
