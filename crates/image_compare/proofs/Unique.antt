@@ -4,7 +4,7 @@ use mathlib.Core.List.{List}
 use Prim.Native.Nat.{ℕ}
 use Rattle.compare.specs.declared.Compared.{Compared}
 use Rattle.compare.proofs.Unique.{outcome-once}
-use Rattle.image.specs.Comparing.{ListsCompared, FirstCompared}
+use Rattle.image_compare.specs.Comparing.{ListsCompared, FirstCompared}
 
 -- `compare_lists`
 pub compare-lists-once : (old : List ℕ) (i : ℕ) (new : List ℕ) (j : ℕ) (start : ℕ) (first last olds news : List ℕ)

@@ -1,4 +1,4 @@
--- What the comparison of lists of two images replies and leaves: the images' checks in document 01's order, then as the
+-- What the comparison of lists of two images replies and leaves: each image's checks in document 01's order, then as the
 -- comparison of the two lists (01, Image; Refusal numbers, 15 and 16; the bench program).
 use Prim.Native.Nat.{ℕ}
 use mathlib.Core.List.{List, [], _∷_}
@@ -9,9 +9,10 @@ use Rattle.rules.specs.Replies.{Reply, need, _then_}
 use Rattle.compare.specs.declared.Compared.{Compared}
 use Rattle.compare.specs.Runs.{differences}
 use Rattle.compare.specs.Calls.{Outcome, portionCheck}
 use Rattle.image.specs.Images.{Named, widthIn, listsOf}
 use Rattle.image.specs.Checks.{imageCheck}
-use Rattle.image.specs.Places.{placeOf, listWith}
+use Rattle.image.specs.Places.{listWith}
+use Rattle.image.specs.Calls.{idCheck}
 
 -- The rules of the first of some lists; none where there is no list.
 unfoldable pub rulesOfFirst : List Named → List Rule
@@ -22,22 +23,22 @@ rulesOfFirst (x ∷ xs) = x .rules
 unfoldable pub firstRules : List ℕ → List Rule
 firstRules bs = rulesOfFirst (listsOf bs)
 
--- All checks of the old image, then all of the new one's, then 16: the widths differ.
-unfoldable pub imagesCheck : (old new : List ℕ) → Reply
-imagesCheck old new = imageCheck old then imageCheck new then need (eqb (widthIn old) (widthIn new)) 16 0 0
-
--- The images, then 15 of the old list, then 15 of the new one.
-unfoldable pub idsCheck : (old : List ℕ) → (oldId : ℕ) → (new : List ℕ) → (newId : ℕ) → Reply
-idsCheck old i new j =
-    imagesCheck old new then need (placeOf old i .found) 15 0 0 then need (placeOf new j .found) 15 0 0
-
--- Comparing two lists by their ids: then 6 of the start, 2 of the four result slices, 7.
+-- Comparing two lists by their ids: all checks of the old image and 15 of its list, the same of the new image, then 16: the
+-- widths differ; then 6 of the start, 2 of the four result slices, 7.
 unfoldable pub compareListsCheck : (old : List ℕ) → (oldId : ℕ) → (new : List ℕ) → (newId : ℕ) → (start : ℕ) → (firsts lasts olds news : ℕ) → Reply
-compareListsCheck old i new j start a b c d = idsCheck old i new j then portionCheck (widthIn old) start a b c d
+compareListsCheck old i new j start a b c d =
+    idCheck old i
+    then idCheck new j
+    then need (eqb (widthIn old) (widthIn new)) 16 0 0
+    then portionCheck (widthIn old) start a b c d
 
 -- Comparing the first lists: an image that passed has one, so there is no 15.
 unfoldable pub compareFirstCheck : (old new : List ℕ) → (start : ℕ) → (firsts lasts olds news : ℕ) → Reply
-compareFirstCheck old new start a b c d = imagesCheck old new then portionCheck (widthIn old) start a b c d
+compareFirstCheck old new start a b c d =
+    imageCheck old
+    then imageCheck new
+    then need (eqb (widthIn old) (widthIn new)) 16 0 0
+    then portionCheck (widthIn old) start a b c d
 
 -- The promise of comparing two lists by their ids.
 abbrev pub ListsCompared : (old : List ℕ) → (oldId : ℕ) → (new : List ℕ) → (newId : ℕ) → (start : ℕ)
