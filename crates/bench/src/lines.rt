@@ -87,7 +87,7 @@ pub fn report(old: &[u8], new: &[u8]) {
     let mut last = [0u64; 1000];
     let mut old_answer = [0u16; 1000];
     let mut new_answer = [0u16; 1000];
-    let c = image::compare_first(
+    let c = image_compare::compare_first(
         old,
         new,
         Wire(0),

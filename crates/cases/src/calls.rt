@@ -2,6 +2,7 @@
 use crate::compare_calls;
 use crate::given;
 use crate::image_calls;
+use crate::names;
 use crate::rules_calls;
 use crate::slices;
 use crate::source::after;
@@ -12,133 +13,95 @@ use crate::source::word_start;
 use crate::swaps_calls;
 use crate::weaving_calls;
 
-// Whether a name is among some names.
-fn among(name: &[u8], names: &[u8]) -> bool {
-    let mut at = 0;
-    let mut left = names.len();
-    while left > 0 {
-        left -= 1;
-        let from = word_start(names, at);
-        at = word_end(names, from);
-        if check::same(part(names, from, at), name) {
-            return name.len() > 0;
-        }
-    }
-    false
-}
-
-fn is_on_list(name: &[u8]) -> bool {
-    among(
-        name,
-        b"check_list check_list_as lookup prefix_swap lookup_swapped runs weave write compare",
-    )
-}
-
-fn is_on_rules(name: &[u8]) -> bool {
-    among(
-        name,
-        b"check_rule rule_at put_rule rule_covers rule_crosses covers crosses distance",
-    )
-}
-
-fn is_on_swap(name: &[u8]) -> bool {
-    among(name, b"apply_rule apply undo invert compose")
-}
-
-fn is_on_image(name: &[u8]) -> bool {
-    among(
-        name,
-        b"check width count entry body body_refusal read compare_lists compare_first",
-    )
-}
-
 // What a case that starts with no name of a call answers.
 pub fn unknown() -> usize {
-    2199023255552
+    2199023255553
 }
 
-// Makes the call that the case asks for, puts what it answers into `out`, and answers its length; where the case cannot be read, a bad
-// position.
-pub fn answered(s: &[u8], out: &mut [u8]) -> usize {
+// Makes the call that the case asks for, and holds what it answers to the text `w`, or writes it (`show`). The position after the answer;
+// where the case cannot be read, a bad position in the case.
+pub fn answered(s: &[u8], w: &[u8], to: usize) -> usize {
     let at = word_start(s, 0);
     let end = word_end(s, at);
-    let name = part(s, at, end);
-    if is_on_list(name) {
-        return on_list(name, s, end, out);
+    let call = names::number_of(part(s, at, end));
+    if call <= names::COMPARE {
+        return on_list(call, s, end, w, to);
     }
-    if is_on_rules(name) {
-        return rules_calls::on_rules(name, s, end, out);
+    if call <= names::DISTANCE {
+        return rules_calls::on_rules(call, s, end, w, to);
     }
-    if is_on_swap(name) {
-        return swaps_calls::on_swap(name, s, end, out);
+    if call <= names::COMPOSE {
+        return swaps_calls::on_swap(call, s, end, w, to);
     }
-    if is_on_image(name) {
-        return on_image(name, s, end, out);
+    if call <= names::COMPARE_FIRST {
+        return on_image(call, s, end, w, to);
     }
     unknown()
 }
 
-fn on_image(name: &[u8], s: &[u8], from: usize, out: &mut [u8]) -> usize {
-    if check::same(name, b"compare_lists") {
-        return compare_calls::compare_lists(s, from, out);
+fn on_image(call: usize, s: &[u8], from: usize, w: &[u8], to: usize) -> usize {
+    if call == names::COMPARE_LISTS {
+        return compare_calls::compare_lists(s, from, w, to);
     }
-    if check::same(name, b"compare_first") {
-        return compare_calls::compare_first(s, from, out);
+    if call == names::COMPARE_FIRST {
+        return compare_calls::compare_first(s, from, w, to);
     }
-    image_calls::on_image(name, s, from, out)
+    image_calls::on_image(call, s, from, w, to)
 }
 
 // The list of a comparison is called `old`, every other `list`.
-fn after_name(name: &[u8], s: &[u8], from: usize) -> usize {
-    if check::same(name, b"compare") {
-        return after(s, from, b"old");
+fn after_name(call: usize, s: &[u8], from: usize) -> usize {
+    if call == names::COMPARE {
+        return after(s, from, names::OLD);
     }
-    after(s, from, b"list")
+    after(s, from, names::LIST)
 }
 
 // The calls that have `width` and then a list.
-fn on_list(name: &[u8], s: &[u8], from: usize, out: &mut [u8]) -> usize {
+fn on_list(call: usize, s: &[u8], from: usize, w: &[u8], to: usize) -> usize {
     let mut care_space = [0u64; 4112];
     let mut value_space = [0u64; 4112];
     let mut decision_space = [0u16; 4112];
     let care: &mut [u64] = &mut care_space;
     let value: &mut [u64] = &mut value_space;
     let decision: &mut [u16] = &mut decision_space;
-    let width = named(s, from, b"width", 4294967295);
-    let l = given::list(s, after_name(name, s, width.at), care, value, decision);
+    let width = named(s, from, names::WIDTH, 4294967295);
+    let l = given::list(s, after_name(call, s, width.at), care, value, decision);
     with_list(
-        name,
+        call,
         s,
         l.at,
         (width.value % 4294967296) as u32,
         slices::words(care, l.cares),
         slices::words(value, l.values),
         slices::halves(decision, l.decisions),
-        out,
+        w,
+        to,
     )
 }
 
 fn with_list(
-    name: &[u8],
+    call: usize,
     s: &[u8],
     at: usize,
     width: u32,
     care: &[u64],
     value: &[u64],
     decision: &[u16],
-    out: &mut [u8],
+    w: &[u8],
+    to: usize,
 ) -> usize {
-    if among(name, b"prefix_swap lookup_swapped") {
-        return swaps_calls::on_list(name, s, at, width, care, value, decision, out);
+    if call == names::PREFIX_SWAP || call == names::LOOKUP_SWAPPED {
+        return swaps_calls::on_list(call, s, at, width, care, value, decision, w, to);
     }
-    if among(name, b"runs weave") {
-        return weaving_calls::on_list(name, s, at, width, care, value, decision, out);
+    if call == names::RUNS || call == names::WEAVE {
+        return weaving_calls::on_list(call, s, at, width, care, value, decision, w, to);
     }
-    if check::same(name, b"write") {
-        return image_calls::write(s, at, width, care, value, decision, out);
+    if call == names::WRITE {
+        return image_calls::write(s, at, width, care, value, decision, w, to);
     }
-    if check::same(name, b"compare") {
-        return compare_calls::on_list(s, at, width, care, value, decision, out);
+    if call == names::COMPARE {
+        return compare_calls::on_list(s, at, width, care, value, decision, w, to);
     }
-    rules_calls::on_list(name, s, at, width, care, value, decision, out)
+    rules_calls::on_list(call, s, at, width, care, value, decision, w, to)
 }

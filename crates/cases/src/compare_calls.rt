@@ -1,5 +1,6 @@
-// The comparison of two lists: the crate `compare`, and of lists of two images: the crate `image`.
+// The comparison of two lists: the crate `compare`, and of lists of two images: the crate `image_compare`.
 use crate::given;
+use crate::names;
 use crate::runs;
 use crate::show;
 use crate::slices;
@@ -17,7 +18,8 @@ pub fn on_list(
     old_care: &[u64],
     old_value: &[u64],
     old_decision: &[u16],
-    out: &mut [u8],
+    w: &[u8],
+    to: usize,
 ) -> usize {
     let mut care_space = [0u64; 4112];
     let mut value_space = [0u64; 4112];
@@ -25,7 +27,7 @@ pub fn on_list(
     let care: &mut [u64] = &mut care_space;
     let value: &mut [u64] = &mut value_space;
     let decision: &mut [u16] = &mut decision_space;
-    let l = given::list(s, after(s, at, b"new"), care, value, decision);
+    let l = given::list(s, after(s, at, names::NEW), care, value, decision);
     on_lists(
         s,
         l.at,
@@ -36,7 +38,8 @@ pub fn on_list(
         slices::words(care, l.cares),
         slices::words(value, l.values),
         slices::halves(decision, l.decisions),
-        out,
+        w,
+        to,
     )
 }
 
@@ -51,7 +54,8 @@ fn on_lists(
     new_care: &[u64],
     new_value: &[u64],
     new_decision: &[u16],
-    out: &mut [u8],
+    w: &[u8],
+    to: usize,
 ) -> usize {
     let mut first_space = [0u64; 4112];
     let mut last_space = [0u64; 4112];
@@ -61,7 +65,7 @@ fn on_lists(
     let all_last: &mut [u64] = &mut last_space;
     let all_old: &mut [u16] = &mut old_space;
     let all_new: &mut [u16] = &mut new_space;
-    let start = named(s, from, b"start", 18446744073709551615);
+    let start = named(s, from, names::START, 18446744073709551615);
     let l = runs::runs(s, start.at, all_first, all_last, all_old, all_new);
     let end = ended(s, l.at);
     if is_bad(end) {
@@ -85,20 +89,19 @@ fn on_lists(
         old,
         new,
     );
-    let answer = show::compared(out, 0, c);
-    runs::show_runs(out, answer, first, last, old, new)
+    show::runs(w, show::compared(w, to, c), first, last, old, new)
 }
 
 // `old` and its `id`, `new` and its `id`.
-pub fn compare_lists(s: &[u8], from: usize, out: &mut [u8]) -> usize {
+pub fn compare_lists(s: &[u8], from: usize, w: &[u8], to: usize) -> usize {
     let mut old_space = [0u8; 65600];
     let mut new_space = [0u8; 65600];
     let old: &mut [u8] = &mut old_space;
     let new: &mut [u8] = &mut new_space;
-    let o = given::bytes(s, from, b"old", old);
-    let old_id = named(s, o.at, b"id", 65535);
-    let n = given::bytes(s, old_id.at, b"new", new);
-    let new_id = named(s, n.at, b"id", 65535);
+    let o = given::bytes(s, after(s, from, names::OLD), old);
+    let old_id = named(s, o.at, names::ID, 65535);
+    let n = given::bytes(s, after(s, old_id.at, names::NEW), new);
+    let new_id = named(s, n.at, names::ID, 65535);
     on_images(
         true,
         s,
@@ -107,18 +110,19 @@ pub fn compare_lists(s: &[u8], from: usize, out: &mut [u8]) -> usize {
         (old_id.value % 65536) as u16,
         slices::bytes(new, n.count),
         (new_id.value % 65536) as u16,
-        out,
+        w,
+        to,
     )
 }
 
 // `old` and `new`.
-pub fn compare_first(s: &[u8], from: usize, out: &mut [u8]) -> usize {
+pub fn compare_first(s: &[u8], from: usize, w: &[u8], to: usize) -> usize {
     let mut old_space = [0u8; 65600];
     let mut new_space = [0u8; 65600];
     let old: &mut [u8] = &mut old_space;
     let new: &mut [u8] = &mut new_space;
-    let o = given::bytes(s, from, b"old", old);
-    let n = given::bytes(s, o.at, b"new", new);
+    let o = given::bytes(s, after(s, from, names::OLD), old);
+    let n = given::bytes(s, after(s, o.at, names::NEW), new);
     on_images(
         false,
         s,
@@ -127,7 +131,8 @@ pub fn compare_first(s: &[u8], from: usize, out: &mut [u8]) -> usize {
         0,
         slices::bytes(new, n.count),
         0,
-        out,
+        w,
+        to,
     )
 }
 
@@ -140,7 +145,8 @@ fn on_images(
     old_id: u16,
     behind: &[u8],
     new_id: u16,
-    out: &mut [u8],
+    w: &[u8],
+    to: usize,
 ) -> usize {
     let mut first_space = [0u64; 4112];
     let mut last_space = [0u64; 4112];
@@ -150,7 +156,7 @@ fn on_images(
     let all_last: &mut [u64] = &mut last_space;
     let all_old: &mut [u16] = &mut old_space;
     let all_new: &mut [u16] = &mut new_space;
-    let start = named(s, from, b"start", 18446744073709551615);
+    let start = named(s, from, names::START, 18446744073709551615);
     let l = runs::runs(s, start.at, all_first, all_last, all_old, all_new);
     let end = ended(s, l.at);
     if is_bad(end) {
@@ -161,11 +167,20 @@ fn on_images(
     let old = slices::halves_mut(all_old, l.olds);
     let new = slices::halves_mut(all_new, l.news);
     let h = Wire(start.value);
-    let c = if by_id {
-        image::compare_lists(before, old_id, behind, new_id, h, first, last, old, new)
-    } else {
-        image::compare_first(before, behind, h, first, last, old, new)
-    };
-    let answer = show::compared(out, 0, c);
-    runs::show_runs(out, answer, first, last, old, new)
+    if by_id {
+        let c = image_compare::compare_lists(
+            before,
+            old_id,
+            behind,
+            new_id,
+            h,
+            first,
+            last,
+            old,
+            new,
+        );
+        return show::runs(w, show::compared(w, to, c), first, last, old, new);
+    }
+    let c = image_compare::compare_first(before, behind, h, first, last, old, new);
+    show::runs(w, show::compared(w, to, c), first, last, old, new)
 }

@@ -1,12 +1,12 @@
 // Files of cases: their lines, the answers beside the cases, and what is said of a file.
 use crate::calls;
+use crate::show;
 use crate::slices;
 use crate::source::byte;
 use crate::source::byte_from;
 use crate::source::is_bad;
 use crate::source::next;
 use crate::source::part;
-use crate::source::word_end;
 use crate::source::word_start;
 
 fn say(s: &[u8]) {
@@ -58,59 +58,45 @@ fn say_place(path: &[u8], line: u64) {
 fn say_unread(path: &[u8], line: u64, s: &[u8], end: usize) {
     say_place(path, line);
     if end == calls::unknown() {
-        let at = word_start(s, 0);
         say(b": no such call: ");
-        say(part(s, at, word_end(s, at)));
-        say(b"\n");
+        say_word(s, 0);
         return;
     }
-    let at = word_start(s, end % 1099511627776);
-    if at < s.len() {
-        say(b": cannot read on from: ");
-        say(part(s, at, line_end(s, at)));
-        say(b"\n");
-        return;
-    }
-    say(b": something is missing at the end\n");
+    say(b": cannot read on from: ");
+    say_word(s, end % 1099511627776);
 }
 
-fn say_otherwise(path: &[u8], line: u64, answer: &[u8], wanted: &[u8]) {
-    say_place(path, line);
-    say(b": answered ");
-    say(answer);
+fn say_word(s: &[u8], from: usize) {
+    let at = word_start(s, from);
+    say(part(s, at, line_end(s, at)));
     say(b"\n");
-    say_place(path, line);
-    say(b": expected ");
-    say(wanted);
-    say(b"\n");
+}
+
+fn is_unread(n: usize) -> bool {
+    is_bad(n) && n < 2199023255552 || n == calls::unknown()
 }
 
 // Tries one case; whether it answers as the line beside it says, or there is no such line.
 fn try_case(path: &[u8], line: u64, s: &[u8], wanted: &[u8], held: bool) -> bool {
-    let mut space = [0u8; 262144];
-    let out: &mut [u8] = &mut space;
-    let n = calls::answered(s, out);
-    if is_bad(n) {
+    let n = calls::answered(s, wanted, 0);
+    if held && n == wanted.len() {
+        return true;
+    }
+    if is_unread(n) {
         say_unread(path, line, s, n);
         return false;
     }
-    if n >= out.len() {
+    say_place(path, line);
+    say(b" = ");
+    calls::answered(s, wanted, show::aloud());
+    say(b"\n");
+    if held {
         say_place(path, line);
-        say(b": the answer is too long\n");
-        return false;
-    }
-    if !held {
-        say_place(path, line);
-        say(b" = ");
-        say(slices::bytes(out, n));
+        say(b": another answer is expected: ");
+        say(wanted);
         say(b"\n");
-        return true;
     }
-    if check::same(slices::bytes(out, n), wanted) {
-        return true;
-    }
-    say_otherwise(path, line, slices::bytes(out, n), wanted);
-    false
+    !held
 }
 
 // How far a file has been read: the position, the number of the line there, and how many cases there were and failed.

@@ -1,4 +1,9 @@
 // What a case hands to a call: slices of numbers, lists of rules, and the slices of a comparison's runs.
+use crate::names::CARE;
+use crate::names::DECISION;
+use crate::names::TIMES;
+use crate::names::TO;
+use crate::names::VALUE;
 use crate::slices;
 use crate::source::Taken;
 use crate::source::after;
@@ -25,11 +30,11 @@ pub struct Filled {
 // How many times what follows is meant, and where that starts: `3 times` before it, or once.
 fn times(s: &[u8], from: usize) -> Taken {
     let at = word_start(s, from);
-    if is_next(s, word_end(s, at), b"times") {
+    if is_next(s, word_end(s, at), TIMES) {
         let n = number(s, at, 100000);
         return Taken {
             value: n.value,
-            at: after(s, n.at, b"times"),
+            at: after(s, n.at, TIMES),
         };
     }
     Taken { value: 1, at }
@@ -100,7 +105,7 @@ fn in_bytes(s: &[u8], from: usize, colon: usize, end: usize, most: u64) -> Item 
 
 // `2 to 9`: each number from the first to the last.
 fn counted_up(s: &[u8], first: u64, at: usize, most: u64) -> Item {
-    let last = number(s, after(s, at, b"to"), most);
+    let last = number(s, after(s, at, TO), most);
     if first <= last.value {
         return Item {
             value: first,
@@ -126,7 +131,7 @@ fn next_item(s: &[u8], from: usize, most: u64) -> Item {
         return in_bytes(s, at, colon, end, most);
     }
     let n = number_in(s, at, end, most);
-    if is_next(s, end, b"to") {
+    if is_next(s, end, TO) {
         return counted_up(s, n.value, end, most);
     }
     Item {
@@ -189,15 +194,15 @@ pub fn numbers(s: &[u8], from: usize, most: u64, out: &mut [u64]) -> Filled {
     }
 }
 
-// An argument that is a slice: its name, then its numbers.
-pub fn words(s: &[u8], from: usize, name: &[u8], out: &mut [u64]) -> Filled {
-    numbers(s, after(s, from, name), 18446744073709551615, out)
+// The numbers in brackets as words, as decisions and as bytes.
+pub fn words(s: &[u8], from: usize, out: &mut [u64]) -> Filled {
+    numbers(s, from, 18446744073709551615, out)
 }
 
-pub fn halves(s: &[u8], from: usize, name: &[u8], out: &mut [u16]) -> Filled {
+pub fn halves(s: &[u8], from: usize, out: &mut [u16]) -> Filled {
     let mut space = [0u64; 4112];
     let wide: &mut [u64] = &mut space;
-    let f = numbers(s, after(s, from, name), 65535, wide);
+    let f = numbers(s, from, 65535, wide);
     let end = room(0, f.count as u64, out.len(), f.at);
     slices::to_halves(slices::words(wide, f.count), out);
     Filled {
@@ -206,10 +211,10 @@ pub fn halves(s: &[u8], from: usize, name: &[u8], out: &mut [u16]) -> Filled {
     }
 }
 
-pub fn bytes(s: &[u8], from: usize, name: &[u8], out: &mut [u8]) -> Filled {
+pub fn bytes(s: &[u8], from: usize, out: &mut [u8]) -> Filled {
     let mut space = [0u64; 65600];
     let wide: &mut [u64] = &mut space;
-    let f = numbers(s, after(s, from, name), 255, wide);
+    let f = numbers(s, from, 255, wide);
     let end = room(0, f.count as u64, out.len(), f.at);
     slices::to_bytes(slices::words(wide, f.count), out);
     Filled {
@@ -364,10 +369,10 @@ pub fn list(
     value: &mut [u64],
     decision: &mut [u16],
 ) -> Lengths {
-    if is_next(s, at, b"care") {
-        let c = words(s, at, b"care", care);
-        let v = words(s, c.at, b"value", value);
-        let d = halves(s, v.at, b"decision", decision);
+    if is_next(s, at, CARE) {
+        let c = words(s, after(s, at, CARE), care);
+        let v = words(s, after(s, c.at, VALUE), value);
+        let d = halves(s, after(s, v.at, DECISION), decision);
         return Lengths {
             cares: c.count,
             values: v.count,
@@ -388,7 +393,7 @@ pub fn list(
 pub fn some_rules(
     s: &[u8],
     from: usize,
-    name: &[u8],
+    name: usize,
     count: usize,
     care: &mut [u64],
     value: &mut [u64],

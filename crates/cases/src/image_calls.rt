@@ -1,5 +1,6 @@
 // The calls on images: the crate `image`.
 use crate::given;
+use crate::names;
 use crate::show;
 use crate::slices;
 use crate::source::after;
@@ -9,80 +10,80 @@ use crate::source::named;
 use image::Listed;
 use image::Outcome;
 
-fn show_outcome(out: &mut [u8], o: Outcome) -> usize {
+fn show_outcome(w: &[u8], to: usize, o: Outcome) -> usize {
     match o {
-        Outcome::Number(n) => show::number(out, 0, n as u64),
-        Outcome::Refused(x) => show::refusal(out, 0, x),
+        Outcome::Number(n) => show::number(w, to, n as u64),
+        Outcome::Refused(x) => show::refusal(w, to, x),
     }
 }
 
-fn show_listed(out: &mut [u8], l: Listed) -> usize {
+fn show_listed(w: &[u8], to: usize, l: Listed) -> usize {
     match l {
         Listed::List { id, rules } => {
-            let at = show::named(out, 0, b"id ", id as u64);
-            show::named(out, at, b" rules ", rules as u64)
+            let at = show::glyph(w, show::named(w, to, show::ID, id as u64), 32);
+            show::named(w, at, show::RULES, rules as u64)
         }
-        Listed::Refused(x) => show::refusal(out, 0, x),
+        Listed::Refused(x) => show::refusal(w, to, x),
     }
 }
 
 // The calls that have an image.
-pub fn on_image(name: &[u8], s: &[u8], from: usize, out: &mut [u8]) -> usize {
+pub fn on_image(call: usize, s: &[u8], from: usize, w: &[u8], to: usize) -> usize {
     let mut space = [0u8; 65600];
     let all: &mut [u8] = &mut space;
-    let f = given::bytes(s, from, b"image", all);
+    let f = given::bytes(s, after(s, from, names::IMAGE), all);
     let image = slices::bytes(all, f.count);
-    if check::same(name, b"entry") {
-        return entry(image, s, f.at, out);
+    if call == names::ENTRY {
+        return entry(image, s, f.at, w, to);
     }
-    if check::same(name, b"body") {
-        return body(name, image, s, f.at, out);
+    if call == names::BODY {
+        return body(call, image, s, f.at, w, to);
     }
-    if check::same(name, b"body_refusal") {
-        return body(name, image, s, f.at, out);
+    if call == names::BODY_REFUSAL {
+        return body(call, image, s, f.at, w, to);
     }
-    if check::same(name, b"read") {
-        return read(image, s, f.at, out);
+    if call == names::READ {
+        return read(image, s, f.at, w, to);
     }
     let end = ended(s, f.at);
     if is_bad(end) {
         return end;
     }
-    whole(name, image, out)
+    whole(call, image, w, to)
 }
 
-fn whole(name: &[u8], image: &[u8], out: &mut [u8]) -> usize {
-    if check::same(name, b"check") {
-        return show::verdict(out, 0, image::check(image));
+fn whole(call: usize, image: &[u8], w: &[u8], to: usize) -> usize {
+    if call == names::CHECK {
+        return show::verdict(w, to, image::check(image));
     }
-    if check::same(name, b"width") {
-        return show_outcome(out, image::width(image));
+    if call == names::WIDTH {
+        return show_outcome(w, to, image::width(image));
     }
-    show_outcome(out, image::count(image))
+    show_outcome(w, to, image::count(image))
 }
 
 // `number`: which entry, counted from 1.
-fn entry(image: &[u8], s: &[u8], from: usize, out: &mut [u8]) -> usize {
-    let number = named(s, from, b"number", 18446744073709551615);
+fn entry(image: &[u8], s: &[u8], from: usize, w: &[u8], to: usize) -> usize {
+    let number = named(s, from, names::NUMBER, 18446744073709551615);
     let end = ended(s, number.at);
     if is_bad(end) {
         return end;
     }
-    show_listed(out, image::entry(image, number.value as usize))
+    show_listed(w, to, image::entry(image, number.value as usize))
 }
 
 // `id`: of which list.
-fn body(name: &[u8], image: &[u8], s: &[u8], from: usize, out: &mut [u8]) -> usize {
-    let id = named(s, from, b"id", 65535);
+fn body(call: usize, image: &[u8], s: &[u8], from: usize, w: &[u8], to: usize) -> usize {
+    let id = named(s, from, names::ID, 65535);
     let end = ended(s, id.at);
     if is_bad(end) {
         return end;
     }
     let i = (id.value % 65536) as u16;
-    if check::same(name, b"body") {
-        return show::bytes(out, 0, b"", image::body(image, i));
+    if call == names::BODY {
+        return show::bytes(w, to, image::body(image, i));
     }
-    show::verdict(out, 0, image::body_refusal(image, i))
+    show::verdict(w, to, image::body_refusal(image, i))
 }
 
 // The width as an image says it, for patterns; 0 where it says none.
@@ -97,17 +98,17 @@ fn width_of(image: &[u8]) -> u32 {
 }
 
 // `id`, and `into`: the list that takes the rules.
-fn read(image: &[u8], s: &[u8], from: usize, out: &mut [u8]) -> usize {
+fn read(image: &[u8], s: &[u8], from: usize, w: &[u8], to: usize) -> usize {
     let mut care_space = [0u64; 4112];
     let mut value_space = [0u64; 4112];
     let mut decision_space = [0u16; 4112];
     let all_care: &mut [u64] = &mut care_space;
     let all_value: &mut [u64] = &mut value_space;
     let all_decision: &mut [u16] = &mut decision_space;
-    let id = named(s, from, b"id", 65535);
+    let id = named(s, from, names::ID, 65535);
     let l = given::list(
         s,
-        after(s, id.at, b"into"),
+        after(s, id.at, names::INTO),
         all_care,
         all_value,
         all_decision,
@@ -120,11 +121,10 @@ fn read(image: &[u8], s: &[u8], from: usize, out: &mut [u8]) -> usize {
     let value = slices::words_mut(all_value, l.values);
     let decision = slices::halves_mut(all_decision, l.decisions);
     let o = image::read(image, (id.value % 65536) as u16, care, value, decision);
-    let answer = show_outcome(out, o);
+    let into = show::and_word(w, show_outcome(w, to, o), show::INTO);
     show::list(
-        out,
-        answer,
-        b" into ",
+        w,
+        show::glyph(w, into, 32),
         width_of(image),
         care,
         value,
@@ -140,7 +140,8 @@ pub fn write(
     care: &[u64],
     value: &[u64],
     decision: &[u16],
-    out: &mut [u8],
+    w: &[u8],
+    to: usize,
 ) -> usize {
     let mut id_space = [0u16; 4112];
     let mut count_space = [0u16; 4112];
@@ -148,15 +149,15 @@ pub fn write(
     let ids: &mut [u16] = &mut id_space;
     let counts: &mut [u16] = &mut count_space;
     let all: &mut [u8] = &mut byte_space;
-    let i = given::halves(s, at, b"ids", ids);
-    let c = given::halves(s, i.at, b"counts", counts);
-    let f = given::bytes(s, c.at, b"into", all);
+    let i = given::halves(s, after(s, at, names::IDS), ids);
+    let c = given::halves(s, after(s, i.at, names::COUNTS), counts);
+    let f = given::bytes(s, after(s, c.at, names::INTO), all);
     let end = ended(s, f.at);
     if is_bad(end) {
         return end;
     }
     let image = slices::bytes_mut(all, f.count);
-    let o = image::write(
+    let o = image_writer::write(
         width,
         slices::halves(ids, i.count),
         slices::halves(counts, c.count),
@@ -165,6 +166,6 @@ pub fn write(
         decision,
         image,
     );
-    let answer = show_outcome(out, o);
-    show::bytes(out, answer, b" into ", image)
+    let into = show::and_word(w, show_outcome(w, to, o), show::INTO);
+    show::bytes(w, show::glyph(w, into, 32), image)
 }

@@ -5,6 +5,7 @@ mod compare_calls;
 mod files;
 mod given;
 mod image_calls;
+mod names;
 mod rules_calls;
 mod runs;
 mod show;

@@ -1,130 +1,154 @@
 // The calls on lists of rules and on rules: the crate `rules`.
 use crate::given;
+use crate::names;
 use crate::show;
 use crate::slices;
 use crate::source::after;
 use crate::source::ended;
 use crate::source::is_bad;
 use crate::source::named;
+use rules::Looked;
 use rules::Rule;
 use rules::Wire;
 
 // The calls that have a width and a list; `at` is the position after these.
 pub fn on_list(
-    name: &[u8],
+    call: usize,
     s: &[u8],
     at: usize,
     width: u32,
     care: &[u64],
     value: &[u64],
     decision: &[u16],
-    out: &mut [u8],
+    w: &[u8],
+    to: usize,
 ) -> usize {
-    if check::same(name, b"check_list") {
+    if call == names::CHECK_LIST {
         let end = ended(s, at);
         if is_bad(end) {
             return end;
         }
-        return show::verdict(out, 0, rules::check_list(width, care, value, decision));
+        return show::verdict(w, to, rules::check_list(width, care, value, decision));
     }
-    if check::same(name, b"check_list_as") {
-        let list = named(s, at, b"as", 18446744073709551615);
+    if call == names::CHECK_LIST_AS {
+        let list = named(s, at, names::AS, 18446744073709551615);
         let end = ended(s, list.at);
         if is_bad(end) {
             return end;
         }
         let v = rules::check_list_as(list.value as usize, width, care, value, decision);
-        return show::verdict(out, 0, v);
+        return show::verdict(w, to, v);
     }
-    lookups(s, at, width, care, value, decision, out)
+    lookups(call, s, at, width, care, value, decision, w, to)
 }
 
 // `headers`: each of them is looked up.
 fn lookups(
+    call: usize,
     s: &[u8],
     at: usize,
     width: u32,
     care: &[u64],
     value: &[u64],
     decision: &[u16],
-    out: &mut [u8],
+    w: &[u8],
+    to: usize,
 ) -> usize {
     let mut space = [0u64; 4112];
     let headers: &mut [u64] = &mut space;
-    let f = given::words(s, at, b"headers", headers);
+    let f = given::words(s, after(s, at, names::HEADERS), headers);
     let end = ended(s, f.at);
     if is_bad(end) {
         return end;
     }
     look_up(
+        call == names::LOOKUP_NUMBER,
         width,
         care,
         value,
         decision,
         slices::words(headers, f.count),
-        out,
+        w,
+        to,
     )
 }
 
+fn looked(
+    by_number: bool,
+    width: u32,
+    care: &[u64],
+    value: &[u64],
+    decision: &[u16],
+    header: u64,
+) -> Looked {
+    if by_number {
+        return rules::lookup_number(width, care, value, decision, header);
+    }
+    rules::lookup(width, care, value, decision, Wire(header))
+}
+
 fn look_up(
+    by_number: bool,
     width: u32,
     care: &[u64],
     value: &[u64],
     decision: &[u16],
     headers: &[u64],
-    out: &mut [u8],
+    w: &[u8],
+    to: usize,
 ) -> usize {
-    let mut at = 0;
+    let mut at = to;
     let mut i = 0;
     while i < headers.len() {
-        at = show::between(out, at, i, b", ");
-        let l = rules::lookup(
+        at = show::between(w, at, i, true);
+        let l = looked(
+            by_number,
             width,
             care,
             value,
             decision,
-            Wire(slices::word_at(headers, i)),
+            slices::word_at(headers, i),
         );
-        at = show::looked(out, at, l);
+        at = show::looked(w, at, l);
         i += 1;
     }
     at
 }
 
 // The calls that have rules and no list: all that are handed in stand in brackets after the name of the argument.
-pub fn on_rules(name: &[u8], s: &[u8], from: usize, out: &mut [u8]) -> usize {
-    if check::same(name, b"check_rule") {
-        return check_rule(s, from, out);
+pub fn on_rules(call: usize, s: &[u8], from: usize, w: &[u8], to: usize) -> usize {
+    if call == names::CHECK_RULE {
+        return check_rule(s, from, w, to);
     }
-    if check::same(name, b"rule_at") {
-        return rule_at(s, from, out);
+    if call == names::RULE_AT {
+        return rule_at(s, from, w, to);
     }
-    if check::same(name, b"put_rule") {
-        return put_rule(s, from, out);
+    if call == names::PUT_RULE {
+        return put_rule(s, from, w, to);
     }
-    if check::same(name, b"rule_covers") {
-        return pair(name, 0, s, from, out);
+    if call == names::RULE_COVERS {
+        return pair(call, 0, s, from, w, to);
     }
-    if check::same(name, b"rule_crosses") {
-        return pair(name, 0, s, from, out);
+    if call == names::RULE_CROSSES {
+        return pair(call, 0, s, from, w, to);
     }
-    let width = named(s, from, b"width", 4294967295);
-    pair(name, (width.value % 4294967296) as u32, s, width.at, out)
+    let width = named(s, from, names::WIDTH, 4294967295);
+    pair(call, (width.value % 4294967296) as u32, s, width.at, w, to)
 }
 
-fn check_rule(s: &[u8], from: usize, out: &mut [u8]) -> usize {
+fn check_rule(s: &[u8], from: usize, w: &[u8], to: usize) -> usize {
     let mut care = [0u64; 1];
     let mut value = [0u64; 1];
     let mut decision = [0u16; 1];
-    let width = named(s, from, b"width", 4294967295);
-    let list = named(s, width.at, b"list", 18446744073709551615);
-    let number = named(s, list.at, b"number", 18446744073709551615);
+    let width = named(s, from, names::WIDTH, 4294967295);
+    let list = named(s, width.at, names::LIST, 18446744073709551615);
+    let number = named(s, list.at, names::NUMBER, 18446744073709551615);
     let end = ended(
         s,
         given::some_rules(
             s,
             number.at,
-            b"rule",
+            names::RULE,
             1,
             &mut care,
             &mut value,
@@ -135,57 +159,66 @@ fn check_rule(s: &[u8], from: usize, out: &mut [u8]) -> usize {
         return end;
     }
     let rule = rules::rule_at(&care, &value, &decision, 0);
-    let w = (width.value % 4294967296) as u32;
-    show::verdict(
-        out,
-        0,
-        rules::check_rule(w, list.value as usize, number.value as usize, rule),
-    )
+    let v = rules::check_rule(
+        (width.value % 4294967296) as u32,
+        list.value as usize,
+        number.value as usize,
+        rule,
+    );
+    show::verdict(w, to, v)
 }
 
 // `rules`: two of them.
-fn pair(name: &[u8], width: u32, s: &[u8], from: usize, out: &mut [u8]) -> usize {
+fn pair(call: usize, width: u32, s: &[u8], from: usize, w: &[u8], to: usize) -> usize {
     let mut care = [0u64; 2];
     let mut value = [0u64; 2];
     let mut decision = [0u16; 2];
     let end = ended(
         s,
-        given::some_rules(s, from, b"rules", 2, &mut care, &mut value, &mut decision),
+        given::some_rules(
+            s,
+            from,
+            names::RULES,
+            2,
+            &mut care,
+            &mut value,
+            &mut decision,
+        ),
     );
     if is_bad(end) {
         return end;
     }
     let a = rules::rule_at(&care, &value, &decision, 0);
     let b = rules::rule_at(&care, &value, &decision, 1);
-    asked(name, width, a, b, out)
+    asked(call, width, a, b, w, to)
 }
 
-fn asked(name: &[u8], width: u32, a: Rule, b: Rule, out: &mut [u8]) -> usize {
-    if check::same(name, b"covers") {
-        return show::holds(out, 0, rules::covers(width, a, b));
+fn asked(call: usize, width: u32, a: Rule, b: Rule, w: &[u8], to: usize) -> usize {
+    if call == names::COVERS {
+        return show::holds(w, to, rules::covers(width, a, b));
     }
-    if check::same(name, b"crosses") {
-        return show::holds(out, 0, rules::crosses(width, a, b));
+    if call == names::CROSSES {
+        return show::holds(w, to, rules::crosses(width, a, b));
     }
-    if check::same(name, b"distance") {
-        return show::measured(out, 0, rules::distance(width, a, b));
+    if call == names::DISTANCE {
+        return show::measured(w, to, rules::distance(width, a, b));
     }
-    if check::same(name, b"rule_covers") {
-        return show::yes_or_no(out, 0, rules::rule_covers(a, b));
+    if call == names::RULE_COVERS {
+        return show::yes_or_no(w, to, rules::rule_covers(a, b));
     }
-    show::yes_or_no(out, 0, rules::rule_crosses(a, b))
+    show::yes_or_no(w, to, rules::rule_crosses(a, b))
 }
 
 // `list`, then `place`, counted from 0.
-fn rule_at(s: &[u8], from: usize, out: &mut [u8]) -> usize {
+fn rule_at(s: &[u8], from: usize, w: &[u8], to: usize) -> usize {
     let mut care_space = [0u64; 4112];
     let mut value_space = [0u64; 4112];
     let mut decision_space = [0u16; 4112];
     let care: &mut [u64] = &mut care_space;
     let value: &mut [u64] = &mut value_space;
     let decision: &mut [u16] = &mut decision_space;
-    let l = given::list(s, after(s, from, b"list"), care, value, decision);
-    let place = named(s, l.at, b"place", 18446744073709551615);
+    let l = given::list(s, after(s, from, names::LIST), care, value, decision);
+    let place = named(s, l.at, names::PLACE, 18446744073709551615);
     let end = ended(s, place.at);
     if is_bad(end) {
         return end;
@@ -196,11 +229,11 @@ fn rule_at(s: &[u8], from: usize, out: &mut [u8]) -> usize {
         slices::halves(decision, l.decisions),
         place.value as usize,
     );
-    show::rule(out, 0, 0, r)
+    show::rule(w, to, 0, r)
 }
 
 // `list`, `place` and `rule`: the list is shown as it is then.
-fn put_rule(s: &[u8], from: usize, out: &mut [u8]) -> usize {
+fn put_rule(s: &[u8], from: usize, w: &[u8], to: usize) -> usize {
     let mut care_space = [0u64; 4112];
     let mut value_space = [0u64; 4112];
     let mut decision_space = [0u16; 4112];
@@ -209,12 +242,12 @@ fn put_rule(s: &[u8], from: usize, out: &mut [u8]) -> usize {
     let all_decision: &mut [u16] = &mut decision_space;
     let l = given::list(
         s,
-        after(s, from, b"list"),
+        after(s, from, names::LIST),
         all_care,
         all_value,
         all_decision,
     );
-    let place = named(s, l.at, b"place", 18446744073709551615);
+    let place = named(s, l.at, names::PLACE, 18446744073709551615);
     let mut one_care = [0u64; 1];
     let mut one_value = [0u64; 1];
     let mut one_decision = [0u16; 1];
@@ -223,7 +256,7 @@ fn put_rule(s: &[u8], from: usize, out: &mut [u8]) -> usize {
         given::some_rules(
             s,
             place.at,
-            b"rule",
+            names::RULE,
             1,
             &mut one_care,
             &mut one_value,
@@ -238,5 +271,12 @@ fn put_rule(s: &[u8], from: usize, out: &mut [u8]) -> usize {
     let value = slices::words_mut(all_value, l.values);
     let decision = slices::halves_mut(all_decision, l.decisions);
     rules::put_rule(care, value, decision, place.value as usize, rule);
-    show::list(out, 0, b"list ", 0, care, value, decision)
+    show::list(
+        w,
+        show::glyph(w, show::word(w, to, show::LIST), 32),
+        0,
+        care,
+        value,
+        decision,
+    )
 }

@@ -1,7 +1,11 @@
-// The four result slices of a comparison, handed in and shown run by run.
+// The four result slices of a comparison, as a case hands them in.
 use crate::given;
 use crate::given::Filled;
-use crate::show;
+use crate::names::FIRST;
+use crate::names::INTO;
+use crate::names::LAST;
+use crate::names::NEW;
+use crate::names::OLD;
 use crate::slices;
 use crate::source::after;
 use crate::source::bad;
@@ -58,12 +62,12 @@ pub fn runs(
     old: &mut [u16],
     new: &mut [u16],
 ) -> RunLengths {
-    let at = after(s, from, b"into");
-    if is_next(s, at, b"first") {
-        let f = given::words(s, at, b"first", first);
-        let l = given::words(s, f.at, b"last", last);
-        let o = given::halves(s, l.at, b"old", old);
-        let n = given::halves(s, o.at, b"new", new);
+    let at = after(s, from, INTO);
+    if is_next(s, at, FIRST) {
+        let f = given::words(s, after(s, at, FIRST), first);
+        let l = given::words(s, after(s, f.at, LAST), last);
+        let o = given::halves(s, after(s, l.at, OLD), old);
+        let n = given::halves(s, after(s, o.at, NEW), new);
         return RunLengths {
             firsts: f.count,
             lasts: l.count,
@@ -87,70 +91,4 @@ pub fn runs(
         news: count,
         at: whole_runs(f),
     }
-}
-
-fn show_run(
-    out: &mut [u8],
-    from: usize,
-    i: usize,
-    first: u64,
-    last: u64,
-    old: u64,
-    new: u64,
-) -> usize {
-    let start = show::between(out, from, i, b", ");
-    let after_first = show::number(out, start, first);
-    let after_last = show::named(out, after_first, b" ", last);
-    let space = show::text(out, after_last, b" ");
-    let after_old = show::answer(out, space, old);
-    let other = show::text(out, after_old, b" ");
-    show::answer(out, other, new)
-}
-
-fn show_all(
-    out: &mut [u8],
-    from: usize,
-    first: &[u64],
-    last: &[u64],
-    old: &[u16],
-    new: &[u16],
-) -> usize {
-    let mut at = show::text(out, from, b"[");
-    let mut i = 0;
-    while i < first.len() {
-        at = show_run(
-            out,
-            at,
-            i,
-            slices::word_at(first, i),
-            slices::word_at(last, i),
-            slices::half_at(old, i) as u64,
-            slices::half_at(new, i) as u64,
-        );
-        i += 1;
-    }
-    show::text(out, at, b"]")
-}
-
-fn of_one_length(first: usize, last: usize, old: usize, new: usize) -> bool {
-    first == last && first == old && first == new
-}
-
-// What the four slices hold: runs, or the slices where they differ in length.
-pub fn show_runs(
-    out: &mut [u8],
-    from: usize,
-    first: &[u64],
-    last: &[u64],
-    old: &[u16],
-    new: &[u16],
-) -> usize {
-    let at = show::text(out, from, b" into ");
-    if of_one_length(first.len(), last.len(), old.len(), new.len()) {
-        return show_all(out, at, first, last, old, new);
-    }
-    let after_first = show::words(out, at, b"first ", first);
-    let after_last = show::words(out, after_first, b" last ", last);
-    let after_old = show::halves(out, after_last, b" old ", old);
-    show::halves(out, after_old, b" new ", new)
 }

@@ -1,6 +1,12 @@
-// Answers as text, in the words of docs/CASES.md. Each function puts its text into `out` from a position on, and answers the position
-// after it; a text that passes the end is cut there.
+// Answers, in the words of docs/CASES.md. An answer is held to the text `w` that stands beside its case, from a position on, and each
+// function answers the position after what it has said, or `otherwise` where the text is another. At the position `aloud` the answer is
+// written to standard output instead.
 use crate::slices;
+use crate::source::byte;
+use crate::source::next;
+use crate::source::part;
+use crate::source::word_end;
+use crate::source::word_start;
 use compare::Compared;
 use compare::Ending;
 use rules::Holds;
@@ -11,129 +17,208 @@ use rules::Rule;
 use rules::Verdict;
 use swaps::Swap;
 
-fn put(out: &mut [u8], at: usize, b: u8) -> usize {
-    if at < out.len() {
-        out[at] = b;
-        return at + 1;
-    }
-    at
+// The words of answers, each with its number.
+pub const FINE: usize = 0;
+
+pub const NONE: usize = 1;
+
+pub const YES: usize = 2;
+
+pub const NO: usize = 3;
+
+pub const REFUSED: usize = 4;
+
+pub const AT: usize = 5;
+
+pub const FINISHED: usize = 6;
+
+pub const MORE: usize = 7;
+
+pub const FROM: usize = 8;
+
+pub const KEPT: usize = 9;
+
+pub const DROPPED: usize = 10;
+
+pub const MERGED: usize = 11;
+
+pub const INTO: usize = 12;
+
+pub const LIST: usize = 13;
+
+pub const SWAP: usize = 14;
+
+pub const CARE: usize = 15;
+
+pub const VALUE: usize = 16;
+
+pub const DECISION: usize = 17;
+
+pub const FIRST: usize = 18;
+
+pub const LAST: usize = 19;
+
+pub const OLD: usize = 20;
+
+pub const NEW: usize = 21;
+
+pub const ID: usize = 22;
+
+pub const RULES: usize = 23;
+
+pub const TIMES: usize = 24;
+
+// The position at which answers are written.
+pub fn aloud() -> usize {
+    4398046511104
 }
 
-pub fn text(out: &mut [u8], from: usize, s: &[u8]) -> usize {
-    let mut at = from;
-    let mut i = 0;
-    while i < s.len() {
-        at = put(out, at, s[i]);
-        i += 1;
-    }
-    at
+// The position that stands for another answer than the one in the text.
+fn otherwise() -> usize {
+    2199023255552
 }
 
-pub fn number(out: &mut [u8], from: usize, n: u64) -> usize {
+fn say(w: &[u8], at: usize, said: &[u8]) -> usize {
+    if at >= aloud() {
+        io::write_all(1, said);
+        return at;
+    }
+    let end = std::num::wrapping_add_usize(at, said.len());
+    if check::same(part(w, at, end), said) {
+        return end;
+    }
+    otherwise()
+}
+
+// One byte, as a space, a bracket or a comma.
+pub fn glyph(w: &[u8], at: usize, b: u8) -> usize {
+    let one = [b];
+    say(w, at, &one)
+}
+
+pub fn word(w: &[u8], at: usize, k: usize) -> usize {
+    let all: &[u8] =
+        b"fine none yes no refused at finished more from kept dropped merged into list swap care value decision first last old new id rules times";
+    let mut from = 0;
+    let mut end = 0;
+    let mut left = next(k);
+    while left > 0 {
+        from = word_start(all, end);
+        end = word_end(all, from);
+        left -= 1;
+    }
+    say(w, at, part(all, from, end))
+}
+
+pub fn number(w: &[u8], at: usize, n: u64) -> usize {
     let mut digits = [0u8; 20];
     let k = io::decimal(n, &mut digits);
-    text(out, from, &digits[..k])
+    say(w, at, &digits[..k])
+}
+
+// A space, and then a word or a number.
+pub fn and_word(w: &[u8], at: usize, k: usize) -> usize {
+    word(w, glyph(w, at, 32), k)
+}
+
+pub fn and_number(w: &[u8], at: usize, n: u64) -> usize {
+    number(w, glyph(w, at, 32), n)
 }
 
 // A word and a number.
-pub fn named(out: &mut [u8], from: usize, word: &[u8], n: u64) -> usize {
-    let at = text(out, from, word);
-    number(out, at, n)
+pub fn named(w: &[u8], at: usize, k: usize, n: u64) -> usize {
+    and_number(w, word(w, at, k), n)
 }
 
-pub fn refusal(out: &mut [u8], from: usize, x: Refusal) -> usize {
-    let at = named(out, from, b"refused ", x.number as u64);
-    let list = named(out, at, b" at ", x.list as u64);
-    named(out, list, b" ", x.rule as u64)
+pub fn refusal(w: &[u8], at: usize, x: Refusal) -> usize {
+    let place = and_word(w, named(w, at, REFUSED, x.number as u64), AT);
+    and_number(w, and_number(w, place, x.list as u64), x.rule as u64)
 }
 
-pub fn verdict(out: &mut [u8], from: usize, v: Verdict) -> usize {
+pub fn verdict(w: &[u8], at: usize, v: Verdict) -> usize {
     match v {
-        Verdict::Fine => text(out, from, b"fine"),
-        Verdict::Refused(x) => refusal(out, from, x),
+        Verdict::Fine => word(w, at, FINE),
+        Verdict::Refused(x) => refusal(w, at, x),
     }
 }
 
 // An answer of a list: 65,535 stands for no match.
-pub fn answer(out: &mut [u8], from: usize, n: u64) -> usize {
+fn answer(w: &[u8], at: usize, n: u64) -> usize {
     if n == 65535 {
-        return text(out, from, b"none");
+        return word(w, at, NONE);
     }
-    number(out, from, n)
+    number(w, at, n)
 }
 
-pub fn looked(out: &mut [u8], from: usize, l: Looked) -> usize {
+pub fn looked(w: &[u8], at: usize, l: Looked) -> usize {
     match l {
-        Looked::Decision(d) => number(out, from, d as u64),
-        Looked::Miss => text(out, from, b"none"),
-        Looked::Refused(x) => refusal(out, from, x),
+        Looked::Decision(d) => number(w, at, d as u64),
+        Looked::Miss => word(w, at, NONE),
+        Looked::Refused(x) => refusal(w, at, x),
     }
 }
 
-pub fn yes_or_no(out: &mut [u8], from: usize, yes: bool) -> usize {
+pub fn yes_or_no(w: &[u8], at: usize, yes: bool) -> usize {
     if yes {
-        return text(out, from, b"yes");
+        return word(w, at, YES);
     }
-    text(out, from, b"no")
+    word(w, at, NO)
 }
 
-pub fn holds(out: &mut [u8], from: usize, h: Holds) -> usize {
+pub fn holds(w: &[u8], at: usize, h: Holds) -> usize {
     match h {
-        Holds::Yes => text(out, from, b"yes"),
-        Holds::No => text(out, from, b"no"),
-        Holds::Refused(x) => refusal(out, from, x),
+        Holds::Yes => word(w, at, YES),
+        Holds::No => word(w, at, NO),
+        Holds::Refused(x) => refusal(w, at, x),
     }
 }
 
-pub fn measured(out: &mut [u8], from: usize, m: Measured) -> usize {
+pub fn measured(w: &[u8], at: usize, m: Measured) -> usize {
     match m {
-        Measured::Places(n) => number(out, from, n as u64),
-        Measured::Refused(x) => refusal(out, from, x),
+        Measured::Places(n) => number(w, at, n as u64),
+        Measured::Refused(x) => refusal(w, at, x),
     }
 }
 
-pub fn compared(out: &mut [u8], from: usize, c: Compared) -> usize {
-    let at = number(out, from, c.count as u64);
+pub fn compared(w: &[u8], at: usize, c: Compared) -> usize {
+    let count = glyph(w, number(w, at, c.count as u64), 32);
     let ending = c.ending;
     match ending {
-        Ending::Finished => text(out, at, b" finished"),
-        Ending::More(h) => named(out, at, b" more from ", h.0),
-        Ending::Refused(x) => {
-            let space = text(out, at, b" ");
-            refusal(out, space, x)
-        }
+        Ending::Finished => word(w, count, FINISHED),
+        Ending::More(h) => and_number(w, and_word(w, word(w, count, MORE), FROM), h.0),
+        Ending::Refused(x) => refusal(w, count, x),
     }
 }
 
-// The position after what was put, and the place of the slice that comes next.
+// The position after what was said, and the place of the slice that comes next.
 struct Shown {
     at: usize,
     next: usize,
 }
 
-// Before each part of a slice but the first.
-pub fn between(out: &mut [u8], from: usize, i: usize, s: &[u8]) -> usize {
+// Between the parts of a slice: a space, or a comma and a space.
+pub fn between(w: &[u8], at: usize, i: usize, comma: bool) -> usize {
     if i == 0 {
-        return from;
+        return at;
     }
-    text(out, from, s)
+    if comma {
+        return glyph(w, glyph(w, at, 44), 32);
+    }
+    glyph(w, at, 32)
 }
 
 // `n times `, where a part of a slice from i to `end` is one and the same 16 times or more.
-fn times(out: &mut [u8], from: usize, i: usize, end: usize) -> Shown {
+fn times(w: &[u8], at: usize, i: usize, end: usize) -> Shown {
     if i < end {
         if end - i >= 16 {
-            let at = number(out, from, (end - i) as u64);
+            let said = and_word(w, number(w, at, (end - i) as u64), TIMES);
             return Shown {
-                at: text(out, at, b" times "),
+                at: glyph(w, said, 32),
                 next: end,
             };
         }
     }
-    Shown {
-        at: from,
-        next: crate::source::next(i),
-    }
+    Shown { at, next: next(i) }
 }
 
 // Where the equal numbers from place i on end.
@@ -148,49 +233,47 @@ fn same_until(s: &[u64], i: usize) -> usize {
     end
 }
 
-fn some_numbers(out: &mut [u8], from: usize, s: &[u64], i: usize) -> Shown {
-    let at = between(out, from, i, b" ");
-    let t = times(out, at, i, same_until(s, i));
+fn some_numbers(w: &[u8], at: usize, s: &[u64], i: usize) -> Shown {
+    let t = times(w, between(w, at, i, false), i, same_until(s, i));
     Shown {
-        at: number(out, t.at, slices::word_at(s, i)),
+        at: number(w, t.at, slices::word_at(s, i)),
         next: t.next,
     }
 }
 
 // The numbers of a slice in brackets.
-fn numbers(out: &mut [u8], from: usize, s: &[u64]) -> usize {
-    let mut at = text(out, from, b"[");
+fn numbers(w: &[u8], from: usize, s: &[u64]) -> usize {
+    let mut at = glyph(w, from, 91);
     let mut i = 0;
     let mut left = s.len();
     while left > 0 {
         left -= 1;
         if i < s.len() {
-            let x = some_numbers(out, at, s, i);
+            let x = some_numbers(w, at, s, i);
             at = x.at;
             i = x.next;
         }
     }
-    text(out, at, b"]")
+    glyph(w, at, 93)
 }
 
 // A slice with the word before it.
-pub fn words(out: &mut [u8], from: usize, word: &[u8], s: &[u64]) -> usize {
-    let at = text(out, from, word);
-    numbers(out, at, s)
+pub fn words(w: &[u8], at: usize, k: usize, s: &[u64]) -> usize {
+    numbers(w, glyph(w, word(w, at, k), 32), s)
 }
 
-pub fn halves(out: &mut [u8], from: usize, word: &[u8], s: &[u16]) -> usize {
+pub fn halves(w: &[u8], at: usize, k: usize, s: &[u16]) -> usize {
     let mut space = [0u64; 4112];
     let wide: &mut [u64] = &mut space;
     slices::of_halves(s, wide);
-    words(out, from, word, slices::words(wide, s.len()))
+    words(w, at, k, slices::words(wide, s.len()))
 }
 
-pub fn bytes(out: &mut [u8], from: usize, word: &[u8], s: &[u8]) -> usize {
+pub fn bytes(w: &[u8], at: usize, s: &[u8]) -> usize {
     let mut space = [0u64; 65600];
     let wide: &mut [u64] = &mut space;
     slices::of_bytes(s, wide);
-    words(out, from, word, slices::words(wide, s.len()))
+    numbers(w, at, slices::words(wide, s.len()))
 }
 
 fn fits(width: u32, care: u64, value: u64) -> bool {
@@ -211,17 +294,15 @@ fn fits(width: u32, care: u64, value: u64) -> bool {
 }
 
 // A rule that fits the width as its pattern, another by its two words, and its decision.
-pub fn rule(out: &mut [u8], from: usize, width: u32, r: Rule) -> usize {
+pub fn rule(w: &[u8], at: usize, width: u32, r: Rule) -> usize {
     if fits(width, r.care, r.value) {
         let mut space = [0u8; 64];
         let pattern: &mut [u8] = &mut space;
         let n = text::write_pattern(width, r, pattern);
-        let at = text(out, from, slices::bytes(pattern, n));
-        return named(out, at, b" ", r.decision as u64);
+        return and_number(w, say(w, at, slices::bytes(pattern, n)), r.decision as u64);
     }
-    let care = number(out, from, r.care);
-    let value = named(out, care, b"/", r.value);
-    named(out, value, b" ", r.decision as u64)
+    let slash = glyph(w, number(w, at, r.care), 47);
+    and_number(w, number(w, slash, r.value), r.decision as u64)
 }
 
 fn same_rules(a: Rule, b: Rule) -> bool {
@@ -230,10 +311,10 @@ fn same_rules(a: Rule, b: Rule) -> bool {
 
 // Where the equal rules from place i on end.
 fn alike_until(care: &[u64], value: &[u64], decision: &[u16], i: usize) -> usize {
+    let r = rules::rule_at(care, value, decision, i);
     let mut end = i;
     while end < care.len() {
-        let r = rules::rule_at(care, value, decision, end);
-        if !same_rules(r, rules::rule_at(care, value, decision, i)) {
+        if !same_rules(r, rules::rule_at(care, value, decision, end)) {
             return end;
         }
         end += 1;
@@ -242,83 +323,109 @@ fn alike_until(care: &[u64], value: &[u64], decision: &[u16], i: usize) -> usize
 }
 
 fn some_rules(
-    out: &mut [u8],
-    from: usize,
+    w: &[u8],
+    at: usize,
     width: u32,
     care: &[u64],
     value: &[u64],
     decision: &[u16],
     i: usize,
 ) -> Shown {
-    let at = between(out, from, i, b", ");
-    let t = times(out, at, i, alike_until(care, value, decision, i));
+    let end = alike_until(care, value, decision, i);
+    let t = times(w, between(w, at, i, true), i, end);
     Shown {
-        at: rule(out, t.at, width, rules::rule_at(care, value, decision, i)),
+        at: rule(w, t.at, width, rules::rule_at(care, value, decision, i)),
         next: t.next,
     }
 }
 
 fn rules_of(
-    out: &mut [u8],
+    w: &[u8],
     from: usize,
     width: u32,
     care: &[u64],
     value: &[u64],
     decision: &[u16],
 ) -> usize {
-    let mut at = text(out, from, b"[");
+    let mut at = glyph(w, from, 91);
     let mut i = 0;
     let mut left = care.len();
     while left > 0 {
         left -= 1;
         if i < care.len() {
-            let x = some_rules(out, at, width, care, value, decision, i);
+            let x = some_rules(w, at, width, care, value, decision, i);
             at = x.at;
             i = x.next;
         }
     }
-    text(out, at, b"]")
+    glyph(w, at, 93)
 }
 
-// A list with the word before it: its rules, or its slices where they differ in length.
+// A list: its rules, or its slices where they differ in length.
 pub fn list(
-    out: &mut [u8],
-    from: usize,
-    word: &[u8],
+    w: &[u8],
+    at: usize,
     width: u32,
     care: &[u64],
     value: &[u64],
     decision: &[u16],
 ) -> usize {
-    let at = text(out, from, word);
-    if care.len() == value.len() {
-        if care.len() == decision.len() {
-            return rules_of(out, at, width, care, value, decision);
-        }
+    if care.len() == value.len() && care.len() == decision.len() {
+        return rules_of(w, at, width, care, value, decision);
     }
-    let after_care = words(out, at, b"care ", care);
-    let after_value = words(out, after_care, b" value ", value);
-    halves(out, after_value, b" decision ", decision)
+    let after_care = glyph(w, words(w, at, CARE, care), 32);
+    let after_value = glyph(w, words(w, after_care, VALUE, value), 32);
+    halves(w, after_value, DECISION, decision)
 }
 
 // The width of a swap and its entries; entries of 0 after the last other one are left out.
-pub fn swap(out: &mut [u8], from: usize, s: Swap) -> usize {
-    let at = named(out, from, b"swap ", s.width as u64);
+pub fn swap(w: &[u8], at: usize, s: Swap) -> usize {
+    let width = glyph(w, named(w, at, SWAP, s.width as u64), 32);
     let places = s.places;
-    named_places(out, at, &places)
-}
-
-fn named_places(out: &mut [u8], from: usize, places: &[u8]) -> usize {
-    bytes(out, from, b" ", slices::bytes(places, last_entry(places)))
+    bytes(w, width, slices::bytes(&places, last_entry(&places)))
 }
 
 fn last_entry(places: &[u8]) -> usize {
     let mut left = places.len();
     while left > 0 {
-        if crate::source::byte(places, left - 1) != 0 {
+        if byte(places, left - 1) != 0 {
             return left;
         }
         left -= 1;
     }
     0
+}
+
+fn run(w: &[u8], at: usize, first: u64, last: u64, old: u64, new: u64) -> usize {
+    let headers = glyph(w, and_number(w, number(w, at, first), last), 32);
+    answer(w, glyph(w, answer(w, headers, old), 32), new)
+}
+
+fn runs_of(w: &[u8], from: usize, first: &[u64], last: &[u64], old: &[u16], new: &[u16]) -> usize {
+    let mut at = glyph(w, from, 91);
+    let mut i = 0;
+    while i < first.len() {
+        at = run(
+            w,
+            between(w, at, i, true),
+            slices::word_at(first, i),
+            slices::word_at(last, i),
+            slices::half_at(old, i) as u64,
+            slices::half_at(new, i) as u64,
+        );
+        i += 1;
+    }
+    glyph(w, at, 93)
+}
+
+// What the four slices of a comparison hold: runs, or the slices where they differ in length.
+pub fn runs(w: &[u8], at: usize, first: &[u64], last: &[u64], old: &[u16], new: &[u16]) -> usize {
+    let into = glyph(w, and_word(w, at, INTO), 32);
+    if first.len() == last.len() && first.len() == old.len() && first.len() == new.len() {
+        return runs_of(w, into, first, last, old, new);
+    }
+    let after_first = glyph(w, words(w, into, FIRST, first), 32);
+    let after_last = glyph(w, words(w, after_first, LAST, last), 32);
+    let after_old = glyph(w, halves(w, after_last, OLD, old), 32);
+    halves(w, after_old, NEW, new)
 }

@@ -1,5 +1,7 @@
 // The text of a case, read from left to right. A position in it is a number. One that could not be read at a position goes on as
 // `bad` of that position, at which nothing can be read either: so only the last position of a case has to be looked at.
+use crate::names::NONE;
+use crate::names::number_of;
 use text::Number;
 
 pub fn byte(s: &[u8], at: usize) -> u8 {
@@ -81,16 +83,18 @@ pub fn part(s: &[u8], from: usize, end: usize) -> &[u8] {
     &s[..0]
 }
 
-// Whether the next word is this one.
-pub fn is_next(s: &[u8], from: usize, word: &[u8]) -> bool {
+// Whether the next word is the one with this number.
+pub fn is_next(s: &[u8], from: usize, name: usize) -> bool {
     let at = word_start(s, from);
-    check::same(part(s, at, word_end(s, at)), word)
+    number_of(part(s, at, word_end(s, at))) == name
 }
 
-// The position after the next word, which has to be this one.
-pub fn after(s: &[u8], from: usize, word: &[u8]) -> usize {
-    if is_next(s, from, word) {
-        return word_end(s, word_start(s, from));
+// The position after the next word, which has to be the one with this number.
+pub fn after(s: &[u8], from: usize, name: usize) -> usize {
+    let at = word_start(s, from);
+    let end = word_end(s, at);
+    if number_of(part(s, at, end)) == name {
+        return end;
     }
     bad(from)
 }
@@ -125,7 +129,7 @@ pub struct Taken {
 
 // What a word stands for; `none` is 65,535, which stands for no match.
 fn meant(word: &[u8]) -> Number {
-    if check::same(word, b"none") {
+    if number_of(word) == NONE {
         return Number::Value(65535);
     }
     text::read_number(word)
@@ -152,6 +156,6 @@ pub fn number(s: &[u8], from: usize, most: u64) -> Taken {
 }
 
 // An argument that is a number: its name, then the number.
-pub fn named(s: &[u8], from: usize, name: &[u8], most: u64) -> Taken {
+pub fn named(s: &[u8], from: usize, name: usize, most: u64) -> Taken {
     number(s, after(s, from, name), most)
 }

@@ -1,7 +1,9 @@
 // The calls on bit-swaps: the crate `swaps`.
 use crate::given;
+use crate::names;
 use crate::show;
 use crate::slices;
+use crate::source::after;
 use crate::source::ended;
 use crate::source::is_bad;
 use crate::source::named;
@@ -20,9 +22,9 @@ struct Given {
 
 // An argument `swap`: its width, and its entries in brackets; those that are left out are 0.
 fn swap_in(s: &[u8], from: usize) -> Given {
-    let width = named(s, from, b"swap", 4294967295);
+    let width = named(s, from, names::SWAP, 4294967295);
     let mut places = [0u8; 64];
-    let f = given::bytes(s, width.at, b"", &mut places);
+    let f = given::bytes(s, width.at, &mut places);
     Given {
         swap: Swap {
             places,
@@ -43,64 +45,64 @@ fn still() -> Swap {
     Swap { places, width: 64 }
 }
 
-fn show_wire(out: &mut [u8], w: ToWire) -> usize {
-    match w {
-        ToWire::Header(x) => show::number(out, 0, x.0),
-        ToWire::Refused(x) => show::refusal(out, 0, x),
+fn show_wire(w: &[u8], to: usize, h: ToWire) -> usize {
+    match h {
+        ToWire::Header(x) => show::number(w, to, x.0),
+        ToWire::Refused(x) => show::refusal(w, to, x),
     }
 }
 
 // A swapped header is shown as the wire header that the swap which moves nothing gives back for it.
-fn show_swapped(out: &mut [u8], h: ToSwapped) -> usize {
+fn show_swapped(w: &[u8], to: usize, h: ToSwapped) -> usize {
     match h {
-        ToSwapped::Header(x) => show_wire(out, still().undo(x)),
-        ToSwapped::Refused(x) => show::refusal(out, 0, x),
+        ToSwapped::Header(x) => show_wire(w, to, still().undo(x)),
+        ToSwapped::Refused(x) => show::refusal(w, to, x),
     }
 }
 
 // Any number is a swapped header by the swap which moves nothing.
-fn undone(out: &mut [u8], swap: Swap, header: u64) -> usize {
+fn undone(w: &[u8], to: usize, swap: Swap, header: u64) -> usize {
     match still().apply(Wire(header)) {
-        ToSwapped::Header(x) => show_wire(out, swap.undo(x)),
-        ToSwapped::Refused(x) => show::refusal(out, 0, x),
+        ToSwapped::Header(x) => show_wire(w, to, swap.undo(x)),
+        ToSwapped::Refused(x) => show::refusal(w, to, x),
     }
 }
 
-fn show_rule(out: &mut [u8], width: u32, m: MovedRule) -> usize {
+fn show_rule(w: &[u8], to: usize, width: u32, m: MovedRule) -> usize {
     match m {
-        MovedRule::Moved(r) => show::rule(out, 0, width, r),
-        MovedRule::Refused(x) => show::refusal(out, 0, x),
+        MovedRule::Moved(r) => show::rule(w, to, width, r),
+        MovedRule::Refused(x) => show::refusal(w, to, x),
     }
 }
 
-fn show_swap(out: &mut [u8], a: SwapAnswer) -> usize {
+fn show_swap(w: &[u8], to: usize, a: SwapAnswer) -> usize {
     let v = a.verdict;
-    let verdict = show::verdict(out, 0, v);
-    let at = show::text(out, verdict, b" ");
-    show::swap(out, at, a.swap)
+    let verdict = show::verdict(w, to, v);
+    show::swap(w, show::glyph(w, verdict, 32), a.swap)
 }
 
 // The calls that have a width and a list; `at` is the position after these.
 pub fn on_list(
-    name: &[u8],
+    call: usize,
     s: &[u8],
     at: usize,
     width: u32,
     care: &[u64],
     value: &[u64],
     decision: &[u16],
-    out: &mut [u8],
+    w: &[u8],
+    to: usize,
 ) -> usize {
-    if check::same(name, b"prefix_swap") {
+    if call == names::PREFIX_SWAP {
         let end = ended(s, at);
         if is_bad(end) {
             return end;
         }
-        return show_swap(out, swaps::prefix_swap(width, care, value, decision));
+        return show_swap(w, to, swaps::prefix_swap(width, care, value, decision));
     }
     let mut space = [0u64; 4112];
     let headers: &mut [u64] = &mut space;
-    let f = given::words(s, at, b"headers", headers);
+    let f = given::words(s, after(s, at, names::HEADERS), headers);
     let end = ended(s, f.at);
     if is_bad(end) {
         return end;
@@ -111,7 +113,8 @@ pub fn on_list(
         value,
         decision,
         slices::words(headers, f.count),
-        out,
+        w,
+        to,
     )
 }
 
@@ -121,14 +124,15 @@ fn look_up(
     value: &[u64],
     decision: &[u16],
     headers: &[u64],
-    out: &mut [u8],
+    w: &[u8],
+    to: usize,
 ) -> usize {
-    let mut at = 0;
+    let mut at = to;
     let mut i = 0;
     while i < headers.len() {
-        at = show::between(out, at, i, b", ");
+        at = show::between(w, at, i, true);
         let h = still().apply(Wire(slices::word_at(headers, i)));
-        at = look_one_up(width, care, value, decision, h, out, at);
+        at = look_one_up(width, care, value, decision, h, w, at);
         i += 1;
     }
     at
@@ -140,67 +144,75 @@ fn look_one_up(
     value: &[u64],
     decision: &[u16],
     header: ToSwapped,
-    out: &mut [u8],
+    w: &[u8],
     at: usize,
 ) -> usize {
     match header {
         ToSwapped::Header(x) => show::looked(
-            out,
+            w,
             at,
             swaps::lookup_swapped(width, care, value, decision, x),
         ),
-        ToSwapped::Refused(x) => show::refusal(out, at, x),
+        ToSwapped::Refused(x) => show::refusal(w, at, x),
     }
 }
 
 // The calls on a swap: each has an argument `swap`, and most of them another one.
-pub fn on_swap(name: &[u8], s: &[u8], from: usize, out: &mut [u8]) -> usize {
+pub fn on_swap(call: usize, s: &[u8], from: usize, w: &[u8], to: usize) -> usize {
     let g = swap_in(s, from);
     let swap = g.swap;
-    if check::same(name, b"invert") {
+    if call == names::INVERT {
         let end = ended(s, g.at);
         if is_bad(end) {
             return end;
         }
-        return show_swap(out, swap.invert());
+        return show_swap(w, to, swap.invert());
     }
-    if check::same(name, b"compose") {
+    if call == names::COMPOSE {
         let second = swap_in(s, g.at);
         let end = ended(s, second.at);
         if is_bad(end) {
             return end;
         }
-        return show_swap(out, swap.compose(second.swap));
+        return show_swap(w, to, swap.compose(second.swap));
     }
-    if check::same(name, b"apply_rule") {
-        return apply_rule(swap, s, g.at, out);
+    if call == names::APPLY_RULE {
+        return apply_rule(swap, s, g.at, w, to);
     }
-    moved(name, swap, s, g.at, out)
+    moved(call, swap, s, g.at, w, to)
 }
 
-fn moved(name: &[u8], swap: Swap, s: &[u8], from: usize, out: &mut [u8]) -> usize {
-    let header = named(s, from, b"header", 18446744073709551615);
+fn moved(call: usize, swap: Swap, s: &[u8], from: usize, w: &[u8], to: usize) -> usize {
+    let header = named(s, from, names::HEADER, 18446744073709551615);
     let end = ended(s, header.at);
     if is_bad(end) {
         return end;
     }
-    if check::same(name, b"apply") {
-        return show_swapped(out, swap.apply(Wire(header.value)));
+    if call == names::APPLY {
+        return show_swapped(w, to, swap.apply(Wire(header.value)));
     }
-    undone(out, swap, header.value)
+    undone(w, to, swap, header.value)
 }
 
-fn apply_rule(swap: Swap, s: &[u8], from: usize, out: &mut [u8]) -> usize {
+fn apply_rule(swap: Swap, s: &[u8], from: usize, w: &[u8], to: usize) -> usize {
     let mut care = [0u64; 1];
     let mut value = [0u64; 1];
     let mut decision = [0u16; 1];
     let end = ended(
         s,
-        given::some_rules(s, from, b"rule", 1, &mut care, &mut value, &mut decision),
+        given::some_rules(
+            s,
+            from,
+            names::RULE,
+            1,
+            &mut care,
+            &mut value,
+            &mut decision,
+        ),
     );
     if is_bad(end) {
         return end;
     }
     let rule = rules::rule_at(&care, &value, &decision, 0);
-    show_rule(out, swap.width, swap.apply_rule(rule))
+    show_rule(w, to, swap.width, swap.apply_rule(rule))
 }

@@ -135,11 +135,19 @@ fn compared(
     new_answer: &mut [u16],
 ) -> Compared {
     if !named {
-        return image::compare_first(old, new, Wire(start), first, last, old_answer, new_answer);
+        return image_compare::compare_first(
+            old,
+            new,
+            Wire(start),
+            first,
+            last,
+            old_answer,
+            new_answer,
+        );
     }
     if id <= 65535 {
         let i = id as u16;
-        return image::compare_lists(
+        return image_compare::compare_lists(
             old,
             i,
             new,
@@ -153,29 +161,18 @@ fn compared(
     }
     Compared {
         count: 0,
-        ending: Ending::Refused(no_list(old, new)),
+        ending: Ending::Refused(no_list(old)),
     }
 }
 
-// Why two images are not compared by an id that no list has: the old image's refusal, the new one's, 16, then 15.
-fn no_list(old: &[u8], new: &[u8]) -> Refusal {
+// Why two images are not compared by an id that no list has: the old image's refusal, then its 15.
+fn no_list(old: &[u8]) -> Refusal {
     let o = image::check(old);
     if let Verdict::Refused(x) = o {
         return x;
     }
-    let n = image::check(new);
-    if let Verdict::Refused(x) = n {
-        return x;
-    }
-    if lists::width_of(old) != lists::width_of(new) {
-        return refused(16);
-    }
-    refused(15)
-}
-
-fn refused(number: usize) -> Refusal {
     Refusal {
-        number,
+        number: 15,
         list: 0,
         rule: 0,
     }

@@ -5,6 +5,7 @@ pub mod HeadLaws
 pub mod StepLaws
 pub mod SeekLaws
 pub mod AskLaws
+pub mod PassedLaws
 pub mod PutLaws
 pub mod GivenLaws
 pub mod WriteLaws
@@ -14,5 +15,3 @@ pub mod CarryLaws
 pub mod Theorems
 pub mod Unique
 pub mod Rows
-pub mod CompareLaws
-pub mod CompareUnique

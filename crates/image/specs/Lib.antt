@@ -7,5 +7,3 @@ pub mod Calls
 pub mod Writing
 pub mod Filled
 pub mod Putting
-pub mod Comparing
-pub mod Bodies

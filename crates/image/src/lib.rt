@@ -1,6 +1,5 @@
 // Images that carry rule lists: checking, asking, reading and writing them, each on any bytes.
 mod checks;
-mod comparing;
 mod numbers;
 mod places;
 mod puts;
@@ -9,8 +8,6 @@ mod reading;
 mod writing;
 
 pub use checks::check;
-pub use comparing::compare_first;
-pub use comparing::compare_lists;
 pub use questions::body;
 pub use questions::body_refusal;
 pub use questions::count;

@@ -4,6 +4,7 @@ use mathlib.Core.List.{List}
 use mathlib.Core.Bool.{Bool}
 use Prim.Native.Nat.{ℕ}
 use Rattle.rules.specs.declared.Rule.{Rule}
+use Rattle.rules.specs.declared.Wire.{Wire}
 use Rattle.rules.specs.declared.Verdict.{Verdict}
 use Rattle.rules.specs.declared.Looked.{Looked}
 use Rattle.rules.specs.declared.Holds.{Holds}
@@ -27,9 +28,14 @@ pub check-list-once : (w l : ℕ) (cs vs ds : List ℕ) (a b : Verdict) → verd
     → verdictReply b ≡ checkList w l cs vs ds → a ≡ b
 check-list-once w l cs vs ds a b p q = one-verdict a b (both p q)
 
--- `lookup`
-pub lookup-once : (w : ℕ) (cs vs ds : List ℕ) (h : ℕ) (a b : Looked) → lookedReply a ≡ lookedUp w cs vs ds h
+-- `lookup_number`
+pub lookup-number-once : (w : ℕ) (cs vs ds : List ℕ) (h : ℕ) (a b : Looked) → lookedReply a ≡ lookedUp w cs vs ds h
     → lookedReply b ≡ lookedUp w cs vs ds h → a ≡ b
+lookup-number-once w cs vs ds h a b p q = one-looked a b (both p q)
+
+-- `lookup`: the number of its header
+pub lookup-once : (w : ℕ) (cs vs ds : List ℕ) (h : Wire) (a b : Looked) → lookedReply a ≡ lookedUp w cs vs ds (h .0)
+    → lookedReply b ≡ lookedUp w cs vs ds (h .0) → a ≡ b
 lookup-once w cs vs ds h a b p q = one-looked a b (both p q)
 
 -- `covers`

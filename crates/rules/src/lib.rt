@@ -9,6 +9,7 @@ pub use checks::check_list;
 pub use checks::check_list_as;
 pub use checks::check_rule;
 pub use lookups::lookup;
+pub use lookups::lookup_number;
 pub use pairs::covers;
 pub use pairs::crosses;
 pub use pairs::distance;

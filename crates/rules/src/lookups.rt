@@ -35,17 +35,24 @@ pub(crate) fn first_match(care: &[u64], value: &[u64], decision: &[u16], header:
     Found::Nothing
 }
 
-// Looks a header in wire order up: the checks of the list, then 6; else the decision of the first matching rule.
-pub fn lookup(width: u32, care: &[u64], value: &[u64], decision: &[u16], header: Wire) -> Looked
+// Looks a header up that is given as its number, for the calls on headers of either order: the checks of the list, then 6;
+// else the decision of the first matching rule.
+pub fn lookup_number(
+    width: u32,
+    care: &[u64],
+    value: &[u64],
+    decision: &[u16],
+    header: u64,
+) -> Looked
     ensures { λ r. ⌜ lookedReply r
-        ≡ lookedUp width (now (care .entry)) (now (value .entry)) (now (decision .entry)) (header .0) ⌝ }
+        ≡ lookedUp width (now (care .entry)) (now (value .entry)) (now (decision .entry)) header ⌝ }
 {
     let v = check_list(width, care, value, decision);
     if let Verdict::Refused(x) = v {
         return Looked::Refused(x);
     }
-    if below(header.0, width) {
-        let Found::At(i) = first_match(care, value, decision, header.0) else {
+    if below(header, width) {
+        let Found::At(i) = first_match(care, value, decision, header) else {
             return Looked::Miss;
         };
         let rule = rule_at(care, value, decision, i);
@@ -56,4 +63,12 @@ pub fn lookup(width: u32, care: &[u64], value: &[u64], decision: &[u16], header:
         list: 0,
         rule: 0,
     })
+}
+
+// Looks a header in wire order up.
+pub fn lookup(width: u32, care: &[u64], value: &[u64], decision: &[u16], header: Wire) -> Looked
+    ensures { λ r. ⌜ lookedReply r
+        ≡ lookedUp width (now (care .entry)) (now (value .entry)) (now (decision .entry)) (header .0) ⌝ }
+{
+    lookup_number(width, care, value, decision, header.0)
 }

@@ -17,7 +17,7 @@ use rules::Rule;
 use rules::Verdict;
 use rules::Wire;
 use rules::check_rule;
-use rules::lookup;
+use rules::lookup_number;
 
 // A header in swapped order. Its number is private: outside this module one comes only from `apply`.
 pub struct Swapped(u64);
@@ -345,7 +345,7 @@ impl Swap {
     }
 }
 
-// Looks a header in swapped order up: the checks of the list, then 6; else the decision of the first matching rule.
+// Looks a header in swapped order up by its number: no header in wire order is made of it.
 pub fn lookup_swapped(
     width: u32,
     care: &[u64],
@@ -356,5 +356,5 @@ pub fn lookup_swapped(
     ensures { λ r. ⌜ lookedReply r
         ≡ lookedUp width (now (care .entry)) (now (value .entry)) (now (decision .entry)) (header .0) ⌝ }
 {
-    lookup(width, care, value, decision, Wire(header.0))
+    lookup_number(width, care, value, decision, header.0)
 }

@@ -1,27 +1,23 @@
 use borrow.Author.Needs.{needs}
 use lib.ListN.{length}
 use Prim.Native.Nat.{_-_}
-use mathlib.Core.Path.{_≡_, _∙_}
 use Rattle.cases.proofs.rules_calls.look_up.Statement.{statement}
 use Rattle.cases.proofs.rules_calls.look_up.Tie as tie
 use Rattle.cases.proofs.rules_calls.look_up.Reads as reads
 use Rattle.cases.proofs.rules_calls.look_up.Lts as lts
+use Rattle.cases.proofs.rules_calls.looked.Reads as rules-calls-looked-reads
 use Rattle.cases.proofs.show.between.Reads as between-reads
-use Rattle.cases.proofs.show.looked.Reads as looked-reads
+use Rattle.cases.proofs.show.looked.Reads as show-looked-reads
 use Rattle.cases.proofs.slices.word_at.Reads as word-at-reads
-use Rattle.rules.proofs.lookup.Reads as lookup-reads
 
 abbrev Inv-loop : tie.InvT-loop
-Inv-loop width care value decision headers out₀ at₀ i₀ t10 out at i = length out ≡ length out₀
+Inv-loop by-number width care value decision headers w to at₀ i₀ at i = Unit {0}
 
 abbrev μ-loop : tie.MeasureT-loop
-μ-loop width care value decision headers out₀ at₀ i₀ t10 out at i = length headers - i
+μ-loop by-number width care value decision headers w to at₀ i₀ at i = length headers - i
 
 loop-holds : tie.Need-loop-holds Inv-loop μ-loop
 loop-holds c = search needs
-
-slice-aggregate-between : tie.Need-slice-aggregate-between Inv-loop μ-loop
-slice-aggregate-between c = search needs
 
 between-requires : tie.Need-between-requires Inv-loop μ-loop
 between-requires c κs = search needs
@@ -29,11 +25,11 @@ between-requires c κs = search needs
 word-at-requires : tie.Need-word-at-requires Inv-loop μ-loop
 word-at-requires c κs = search needs
 
-lookup-requires : tie.Need-lookup-requires Inv-loop μ-loop
-lookup-requires c κs = search needs
-
 looked-requires : tie.Need-looked-requires Inv-loop μ-loop
 looked-requires c κs = search needs
+
+looked-requires-2 : tie.Need-looked-requires-2 Inv-loop μ-loop
+looked-requires-2 c κs = search needs
 
 add-i : tie.Need-add-i Inv-loop μ-loop
 add-i c = search needs
@@ -43,9 +39,6 @@ loop-less c = search needs
 
 loop-again : tie.Need-loop-again Inv-loop μ-loop
 loop-again c = search needs
-
-same-length : tie.Need-same-length Inv-loop μ-loop
-same-length c = search needs
 
 returns : tie.Need-returns Inv-loop μ-loop
 returns c = search needs
@@ -57,13 +50,11 @@ look-up-spec =
     Inv-loop
     μ-loop
     loop-holds
-    slice-aggregate-between
     between-requires
     word-at-requires
-    lookup-requires
     looked-requires
+    looked-requires-2
     add-i
     loop-less
     loop-again
-    same-length
     returns)

@@ -9,16 +9,16 @@ use Rattle.cases.proofs.show.same_rules.Reads as same-rules-reads
 use Rattle.rules.proofs.rule_at.Reads as rule-at-reads
 
 abbrev Inv-loop : tie.InvT-loop
-Inv-loop care value decision i end₀ end = Unit {0}
+Inv-loop care value decision i r end₀ end = Unit {0}
 
 abbrev μ-loop : tie.MeasureT-loop
-μ-loop care value decision i end₀ end = length care - end
-
-loop-holds : tie.Need-loop-holds Inv-loop μ-loop
-loop-holds c = search needs
+μ-loop care value decision i r end₀ end = length care - end
 
 rule-at-requires : tie.Need-rule-at-requires Inv-loop μ-loop
 rule-at-requires c κs = search needs
+
+loop-holds : tie.Need-loop-holds Inv-loop μ-loop
+loop-holds c = search needs
 
 rule-at-requires-2 : tie.Need-rule-at-requires-2 Inv-loop μ-loop
 rule-at-requires-2 c κs = search needs
@@ -47,8 +47,8 @@ alike-until-spec =
     (tie.spec
     Inv-loop
     μ-loop
-    loop-holds
     rule-at-requires
+    loop-holds
     rule-at-requires-2
     same-rules-requires
     returns

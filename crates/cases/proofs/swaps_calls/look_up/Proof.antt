@@ -1,7 +1,6 @@
 use borrow.Author.Needs.{needs}
 use lib.ListN.{length}
 use Prim.Native.Nat.{_-_}
-use mathlib.Core.Path.{_≡_, _∙_}
 use Rattle.cases.proofs.swaps_calls.look_up.Statement.{statement}
 use Rattle.cases.proofs.swaps_calls.look_up.Tie as tie
 use Rattle.cases.proofs.swaps_calls.look_up.Reads as reads
@@ -13,16 +12,13 @@ use Rattle.cases.proofs.swaps_calls.still.Reads as still-reads
 use Rattle.swaps.proofs.swaps.Swap.apply.Reads as apply-reads
 
 abbrev Inv-loop : tie.InvT-loop
-Inv-loop width care value decision headers out₀ at₀ i₀ t10 out at i = length out ≡ length out₀
+Inv-loop width care value decision headers w to at₀ i₀ at i = Unit {0}
 
 abbrev μ-loop : tie.MeasureT-loop
-μ-loop width care value decision headers out₀ at₀ i₀ t10 out at i = length headers - i
+μ-loop width care value decision headers w to at₀ i₀ at i = length headers - i
 
 loop-holds : tie.Need-loop-holds Inv-loop μ-loop
 loop-holds c = search needs
-
-slice-aggregate-between : tie.Need-slice-aggregate-between Inv-loop μ-loop
-slice-aggregate-between c = search needs
 
 between-requires : tie.Need-between-requires Inv-loop μ-loop
 between-requires c κs = search needs
@@ -48,9 +44,6 @@ loop-less c = search needs
 loop-again : tie.Need-loop-again Inv-loop μ-loop
 loop-again c = search needs
 
-same-length : tie.Need-same-length Inv-loop μ-loop
-same-length c = search needs
-
 returns : tie.Need-returns Inv-loop μ-loop
 returns c = search needs
 
@@ -61,7 +54,6 @@ look-up-spec =
     Inv-loop
     μ-loop
     loop-holds
-    slice-aggregate-between
     between-requires
     still-requires
     word-at-requires
@@ -70,5 +62,4 @@ look-up-spec =
     add-i
     loop-less
     loop-again
-    same-length
     returns)

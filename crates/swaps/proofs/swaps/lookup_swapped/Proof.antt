@@ -2,11 +2,11 @@ use borrow.Author.Needs.{needs}
 use Rattle.swaps.proofs.swaps.lookup_swapped.Statement.{statement}
 use Rattle.swaps.proofs.swaps.lookup_swapped.Tie as tie
 
-lookup-requires : tie.Need-lookup-requires
-lookup-requires c κs = search needs
+lookup-number-requires : tie.Need-lookup-number-requires
+lookup-number-requires c κs = search needs
 
 returns : tie.Need-returns
-returns c = c .lookup .ensures
+returns c = c .lookup-number .ensures
 
 pub lookup-swapped-spec : {M : Type 1} → statement M
-lookup-swapped-spec = tie.close (tie.spec lookup-requires returns)
+lookup-swapped-spec = tie.close (tie.spec lookup-number-requires returns)

@@ -1,0 +1,67 @@
+use borrow.Author.Needs.{needs}
+use Rattle.cases.proofs.show.word.Statement.{statement}
+use Rattle.cases.proofs.show.word.Tie as tie
+use Rattle.cases.proofs.show.word.Reads as reads
+use Rattle.cases.proofs.show.word.Lts as lts
+use Rattle.cases.proofs.show.say.Reads as say-reads
+use Rattle.cases.proofs.source.next.Reads as next-reads
+use Rattle.cases.proofs.source.part.Reads as part-reads
+use Rattle.cases.proofs.source.word_end.Reads as word-end-reads
+use Rattle.cases.proofs.source.word_start.Reads as word-start-reads
+
+abbrev Inv-loop : tie.InvT-loop
+Inv-loop w at k all from₀ end₀ left₀ from end left = Unit {0}
+
+abbrev μ-loop : tie.MeasureT-loop
+μ-loop w at k all from₀ end₀ left₀ from end left = left
+
+slice-aggregate-all : tie.Need-slice-aggregate-all Inv-loop μ-loop
+slice-aggregate-all c = search needs
+
+next-requires : tie.Need-next-requires Inv-loop μ-loop
+next-requires c κs = search needs
+
+loop-holds : tie.Need-loop-holds Inv-loop μ-loop
+loop-holds c = search needs
+
+word-start-requires : tie.Need-word-start-requires Inv-loop μ-loop
+word-start-requires c κs = search needs
+
+word-end-requires : tie.Need-word-end-requires Inv-loop μ-loop
+word-end-requires c κs = search needs
+
+sub-left : tie.Need-sub-left Inv-loop μ-loop
+sub-left c = search needs
+
+loop-less : tie.Need-loop-less Inv-loop μ-loop
+loop-less c = search needs
+
+loop-again : tie.Need-loop-again Inv-loop μ-loop
+loop-again c = search needs
+
+part-requires : tie.Need-part-requires Inv-loop μ-loop
+part-requires c κs = search needs
+
+say-requires : tie.Need-say-requires Inv-loop μ-loop
+say-requires c κs = search needs
+
+returns : tie.Need-returns Inv-loop μ-loop
+returns c = search needs
+
+pub word-spec : {M : Type 1} → statement M
+word-spec =
+    tie.close
+    (tie.spec
+    Inv-loop
+    μ-loop
+    slice-aggregate-all
+    next-requires
+    loop-holds
+    word-start-requires
+    word-end-requires
+    sub-left
+    loop-less
+    loop-again
+    part-requires
+    say-requires
+    returns)

@@ -1,0 +1,135 @@
+// The words of a case, each with its number: the names of calls and of arguments.
+use crate::source::part;
+use crate::source::word_end;
+use crate::source::word_start;
+
+pub const CHECK_LIST: usize = 0;
+
+pub const CHECK_LIST_AS: usize = 1;
+
+pub const LOOKUP: usize = 2;
+
+pub const LOOKUP_NUMBER: usize = 3;
+
+pub const LOOKUP_SWAPPED: usize = 4;
+
+pub const PREFIX_SWAP: usize = 5;
+
+pub const RUNS: usize = 6;
+
+pub const WEAVE: usize = 7;
+
+pub const WRITE: usize = 8;
+
+pub const COMPARE: usize = 9;
+
+pub const CHECK_RULE: usize = 10;
+
+pub const RULE_AT: usize = 11;
+
+pub const PUT_RULE: usize = 12;
+
+pub const RULE_COVERS: usize = 13;
+
+pub const RULE_CROSSES: usize = 14;
+
+pub const COVERS: usize = 15;
+
+pub const CROSSES: usize = 16;
+
+pub const DISTANCE: usize = 17;
+
+pub const APPLY_RULE: usize = 18;
+
+pub const APPLY: usize = 19;
+
+pub const UNDO: usize = 20;
+
+pub const INVERT: usize = 21;
+
+pub const COMPOSE: usize = 22;
+
+pub const CHECK: usize = 23;
+
+pub const WIDTH: usize = 24;
+
+pub const COUNT: usize = 25;
+
+pub const ENTRY: usize = 26;
+
+pub const BODY: usize = 27;
+
+pub const BODY_REFUSAL: usize = 28;
+
+pub const READ: usize = 29;
+
+pub const COMPARE_LISTS: usize = 30;
+
+pub const COMPARE_FIRST: usize = 31;
+
+pub const LIST: usize = 32;
+
+pub const OLD: usize = 33;
+
+pub const NEW: usize = 34;
+
+pub const INTO: usize = 35;
+
+pub const HEADERS: usize = 36;
+
+pub const HEADER: usize = 37;
+
+pub const AS: usize = 38;
+
+pub const NUMBER: usize = 39;
+
+pub const RULE: usize = 40;
+
+pub const RULES: usize = 41;
+
+pub const PLACE: usize = 42;
+
+pub const SWAP: usize = 43;
+
+pub const START: usize = 44;
+
+pub const IMAGE: usize = 45;
+
+pub const ID: usize = 46;
+
+pub const IDS: usize = 47;
+
+pub const COUNTS: usize = 48;
+
+pub const CARE: usize = 49;
+
+pub const VALUE: usize = 50;
+
+pub const DECISION: usize = 51;
+
+pub const FIRST: usize = 52;
+
+pub const LAST: usize = 53;
+
+pub const TIMES: usize = 54;
+
+pub const TO: usize = 55;
+
+pub const NONE: usize = 56;
+
+// Which word this is; one that is none of them has the number 99.
+pub fn number_of(word: &[u8]) -> usize {
+    let all: &[u8] =
+        b"check_list check_list_as lookup lookup_number lookup_swapped prefix_swap runs weave write compare check_rule rule_at put_rule rule_covers rule_crosses covers crosses distance apply_rule apply undo invert compose check width count entry body body_refusal read compare_lists compare_first list old new into headers header as number rule rules place swap start image id ids counts care value decision first last times to none";
+    let mut at = 0;
+    let mut k = 0;
+    while k < 57 {
+        let from = word_start(all, at);
+        at = word_end(all, from);
+        if check::same(part(all, from, at), word) {
+            return k;
+        }
+        k += 1;
+    }
+    99
+}

@@ -1,0 +1,127 @@
+use mathlib.Core.List.{[]}
+use native.Mathlib.Omega.{arith}
+use Rattle.image.proofs.SeekLaws.{image-facts}
+use Rattle.image_compare.proofs.ReadLaws.{held-rules, held-cares, held-values, held-decisions, room-cares, room-values, room-decisions, held-passes, read-refused, read-passed, read-image, read-held}
+use Rattle.image_compare.proofs.CompareLaws.{rest-refused, rest-sixteen, rest-compared}
+use borrow.Author.Needs.{needs}
+use Rattle.image_compare.proofs.lists.compare_with.Statement.{statement}
+use Rattle.image_compare.proofs.lists.compare_with.Tie as tie
+use Rattle.image_compare.proofs.lists.compare_with.Reads as reads
+use Rattle.image_compare.proofs.lists.compare_with.Lts as lts
+use Rattle.compare.proofs.compare.Reads as compare-reads
+use Rattle.image.proofs.read.Reads as read-reads
+use Rattle.image_compare.proofs.lists.refused.Reads as refused-reads
+use Rattle.image_compare.proofs.lists.wide.Reads as wide-reads
+
+slice-aggregate-read : tie.Need-slice-aggregate-read
+slice-aggregate-read c = search needs
+
+slice-aggregate-read-2 : tie.Need-slice-aggregate-read-2
+slice-aggregate-read-2 c = search needs
+
+slice-aggregate-read-3 : tie.Need-slice-aggregate-read-3
+slice-aggregate-read-3 c = search needs
+
+read-requires : tie.Need-read-requires
+read-requires c κs = search needs
+
+enum-known-n : tie.Need-enum-known-n
+enum-known-n c = search needs
+
+refused-requires : tie.Need-refused-requires
+refused-requires c κs = search needs
+
+enum-known-n-2 : tie.Need-enum-known-n-2
+enum-known-n-2 c = search needs
+
+shared-slice-read-if1 : tie.Need-shared-slice-read-if1
+shared-slice-read-if1 c = search needs
+
+shared-slice-read-if1-2 : tie.Need-shared-slice-read-if1-2
+shared-slice-read-if1-2 c = omega (arith, image-facts _ [] (read-image _ _ _ _ _ _ _ _ _ (c .before .before .before .before .before .before .before .before .read .ensures) _ (c .before .before .before .n2 .given .1)) .head .least)
+
+refused-requires-2 : tie.Need-refused-requires-2
+refused-requires-2 c κs = search needs
+
+returns : tie.Need-returns
+returns c = rest-sixteen _ _ _ _ _ _ _ _ _ _ (read-passed _ _ _ _ _ _ _ _ _ (c .before .before .before .before .before .before .before .before .before .before .read .ensures) _ (c .before .before .before .before .before .n2 .given .1)) (c .before .if1 .taken) (c .refused2 .ensures)
+
+shared-slice-read-wide : tie.Need-shared-slice-read-wide
+shared-slice-read-wide c = search needs
+
+wide-requires : tie.Need-wide-requires
+wide-requires c κs = search needs
+
+cast-width : tie.Need-cast-width
+cast-width c = search needs
+
+array-share-prefix-cares : tie.Need-array-share-prefix-cares
+array-share-prefix-cares c = room-cares _ _ _ _ _ (read-held _ _ _ _ _ _ _ _ _ (c .before .before .before .before .before .before .before .before .before .before .before .read .ensures) _ (c .before .before .before .before .before .before .n2 .given .1))
+
+slice-aggregate-compare : tie.Need-slice-aggregate-compare
+slice-aggregate-compare c = held-cares _ _ _ _ _ (read-held _ _ _ _ _ _ _ _ _ (c .before .before .before .before .before .before .before .before .before .before .before .before .read .ensures) _ (c .before .before .before .before .before .before .before .n2 .given .1))
+
+array-share-prefix-values : tie.Need-array-share-prefix-values
+array-share-prefix-values c = room-values _ _ _ _ _ (read-held _ _ _ _ _ _ _ _ _ (c .before .before .before .before .before .before .before .before .before .before .before .before .read .ensures) _ (c .before .before .before .before .before .before .before .n2 .given .1))
+
+slice-aggregate-compare-2 : tie.Need-slice-aggregate-compare-2
+slice-aggregate-compare-2 c = held-values _ _ _ _ _ (read-held _ _ _ _ _ _ _ _ _ (c .before .before .before .before .before .before .before .before .before .before .before .before .before .read .ensures) _ (c .before .before .before .before .before .before .before .before .n2 .given .1))
+
+array-share-prefix-decisions : tie.Need-array-share-prefix-decisions
+array-share-prefix-decisions c = room-decisions _ _ _ _ _ (read-held _ _ _ _ _ _ _ _ _ (c .before .before .before .before .before .before .before .before .before .before .before .before .before .read .ensures) _ (c .before .before .before .before .before .before .before .before .n2 .given .1))
+
+slice-aggregate-compare-3 : tie.Need-slice-aggregate-compare-3
+slice-aggregate-compare-3 c = held-decisions _ _ _ _ _ (read-held _ _ _ _ _ _ _ _ _ (c .before .before .before .before .before .before .before .before .before .before .before .before .before .before .read .ensures) _ (c .before .before .before .before .before .before .before .before .before .n2 .given .1))
+
+compare-requires : tie.Need-compare-requires
+compare-requires c κs = search needs
+
+returns-2 : tie.Need-returns-2
+returns-2 c = rest-refused _ _ _ _ _ _ _ _ _ _ _ (read-refused _ _ _ _ _ _ _ _ _ (c .before .before .before .before .before .before .before .read .ensures) (search needs) (search needs) (search needs) (c .before .before .n .given .1)) (c .refused .ensures)
+
+same-length : tie.Need-same-length
+same-length c = search needs
+
+same-length-2 : tie.Need-same-length-2
+same-length-2 c = search needs
+
+same-length-3 : tie.Need-same-length-3
+same-length-3 c = search needs
+
+same-length-4 : tie.Need-same-length-4
+same-length-4 c = search needs
+
+returns-3 : tie.Need-returns-3
+returns-3 c = rest-compared _ _ _ _ _ _ _ _ _ _ _ _ _ _ _ _ _ _ _ (read-passed _ _ _ _ _ _ _ _ _ (c .before .before .before .before .before .before .before .before .before .before .before .before .before .before .before .before .before .before .before .before .before .before .before .before .before .before .before .read .ensures) _ (c .before .before .before .before .before .before .before .before .before .before .before .before .before .before .before .before .before .before .before .before .before .before .n2 .given .1)) (c .before .before .before .before .before .before .before .before .before .before .before .before .before .before .before .before .before .before .if1 .left) (c .before .before .before .before .before .before .before .before .before .before .before .before .before .before .before .before .before .before .before .before .before .before .before .before .before .before .before .before .before .before .before .before .before .before .before .before .before .before .before .before .pre .1) (held-passes _ _ _ _ _ _ _ (read-image _ _ _ _ _ _ _ _ _ (c .before .before .before .before .before .before .before .before .before .before .before .before .before .before .before .before .before .before .before .before .before .before .before .before .before .before .before .read .ensures) _ (c .before .before .before .before .before .before .before .before .before .before .before .before .before .before .before .before .before .before .before .before .before .before .n2 .given .1)) (read-held _ _ _ _ _ _ _ _ _ (c .before .before .before .before .before .before .before .before .before .before .before .before .before .before .before .before .before .before .before .before .before .before .before .before .before .before .before .read .ensures) _ (c .before .before .before .before .before .before .before .before .before .before .before .before .before .before .before .before .before .before .before .before .before .before .n2 .given .1))) (held-rules _ _ _ _ _ (read-held _ _ _ _ _ _ _ _ _ (c .before .before .before .before .before .before .before .before .before .before .before .before .before .before .before .before .before .before .before .before .before .before .before .before .before .before .before .read .ensures) _ (c .before .before .before .before .before .before .before .before .before .before .before .before .before .before .before .before .before .before .before .before .before .before .n2 .given .1))) _ (c .before .before .before .before .before .before .before .before .before .before .before .before .before .before .before .before .wide .ensures .0) (c .before .before .before .before .before .before .before .before .compare .ensures)
+
+pub compare-with-spec : {M : Type 1} → statement M
+compare-with-spec =
+    tie.close
+    (tie.spec
+    slice-aggregate-read
+    slice-aggregate-read-2
+    slice-aggregate-read-3
+    read-requires
+    enum-known-n
+    refused-requires
+    enum-known-n-2
+    shared-slice-read-if1
+    shared-slice-read-if1-2
+    refused-requires-2
+    returns
+    shared-slice-read-wide
+    wide-requires
+    cast-width
+    array-share-prefix-cares
+    slice-aggregate-compare
+    array-share-prefix-values
+    slice-aggregate-compare-2
+    array-share-prefix-decisions
+    slice-aggregate-compare-3
+    compare-requires
+    returns-2
+    same-length
+    same-length-2
+    same-length-3
+    same-length-4
+    returns-3)

@@ -1,0 +1,175 @@
+// The comparison of a list of one image with a list of another.
+ghost use mathlib.Core.Path.{_≡_};
+ghost use Prim.Native.Nat.{_+_, _≤_, _<_};
+ghost use lib.ListN.{length};
+ghost use Rattle.rules.specs.Replies.{passed};
+ghost use Rattle.rules.specs.Slices.{rulesOf};
+ghost use Rattle.rules.specs.Calls.{checkList};
+ghost use Rattle.image.specs.Bytes.{num};
+ghost use Rattle.image.specs.Images.{widthIn};
+ghost use Rattle.image_compare.specs.Comparing.{ListsCompared, FirstCompared};
+ghost use Rattle.image_compare.specs.Parts.{RestCompared};
+use compare::Compared;
+use compare::Ending;
+use compare::compare;
+use image::Outcome;
+use image::read;
+use rules::Refusal;
+use rules::Wire;
+
+// A refusal as the answer of a comparison.
+fn refused(refusal: Refusal) -> Compared
+    ensures { λ r. ⌜ (r .count ≡ 0) × (r .ending ≡ Ending.Refused refusal) ⌝ }
+{
+    Compared {
+        count: 0,
+        ending: Ending::Refused(refusal),
+    }
+}
+
+// A byte as a number that sums and products have room in.
+fn wide(x: u8) -> u16
+    ensures { λ r. ⌜ (r ≡ x) × (r < 256) ⌝ }
+{
+    x as u16
+}
+
+// Compares a list of the old image, which was read out, with the new image's list. The new image's refusal and its 15, then
+// 16; then 6, 2 and 7.
+fn compare_with(
+    old: &[u8],
+    care: &[u64],
+    value: &[u64],
+    decision: &[u16],
+    new: &[u8],
+    new_id: u16,
+    start: Wire,
+    first: &mut [u64],
+    last: &mut [u64],
+    old_answer: &mut [u16],
+    new_answer: &mut [u16],
+) -> Compared
+    requires { ⌜ (2 ≤ length (now old)) × (checkList (widthIn (now old)) 1 (now care) (now value) (now decision) ≡ passed) ⌝ }
+    ensures { λ r. ⌜ RestCompared (widthIn (now (old .entry))) (rulesOf (now (care .entry)) (now (value .entry)) (now (decision .entry)))
+        (now (new .entry)) «new_id» (start .0)
+        (now (first .entry)) (now (last .entry)) (now («old_answer» .entry)) (now («new_answer» .entry))
+        (now (first .exit)) (now (last .exit)) (now («old_answer» .exit)) (now («new_answer» .exit)) r ⌝ }
+{
+    let mut cares = [0u64; 1024];
+    let mut values = [0u64; 1024];
+    let mut decisions = [0u16; 1024];
+    let n = read(new, new_id, &mut cares, &mut values, &mut decisions);
+    match n {
+        Outcome::Refused(x) => refused(x),
+        Outcome::Number(rules) => {
+            if old[1] != new[1] {
+                return refused(Refusal {
+                    number: 16,
+                    list: 0,
+                    rule: 0,
+                });
+            }
+            let width = wide(old[1]) as u32;
+            compare(
+                width,
+                care,
+                value,
+                decision,
+                &cares[..rules],
+                &values[..rules],
+                &decisions[..rules],
+                start,
+                first,
+                last,
+                old_answer,
+                new_answer,
+            )
+        }
+    }
+}
+
+// Compares the old image's list `old_id` with the new image's list `new_id` from a header on, as `compare` does two lists.
+// The old image's refusal and its 15, the new image's and its 15, then 16; then 6, 2 and 7.
+pub fn compare_lists(
+    old: &[u8],
+    old_id: u16,
+    new: &[u8],
+    new_id: u16,
+    start: Wire,
+    first: &mut [u64],
+    last: &mut [u64],
+    old_answer: &mut [u16],
+    new_answer: &mut [u16],
+) -> Compared
+    ensures { λ r. ⌜ ListsCompared (now (old .entry)) «old_id» (now (new .entry)) «new_id» (start .0)
+        (now (first .entry)) (now (last .entry)) (now («old_answer» .entry)) (now («new_answer» .entry))
+        (now (first .exit)) (now (last .exit)) (now («old_answer» .exit)) (now («new_answer» .exit)) r ⌝ }
+{
+    let mut cares = [0u64; 1024];
+    let mut values = [0u64; 1024];
+    let mut decisions = [0u16; 1024];
+    let o = read(old, old_id, &mut cares, &mut values, &mut decisions);
+    match o {
+        Outcome::Refused(x) => refused(x),
+        Outcome::Number(rules) => compare_with(
+            old,
+            &cares[..rules],
+            &values[..rules],
+            &decisions[..rules],
+            new,
+            new_id,
+            start,
+            first,
+            last,
+            old_answer,
+            new_answer,
+        ),
+    }
+}
+
+// The id in the two bytes from byte `at` on.
+fn id_at(image: &[u8], at: usize) -> u16
+    requires { ⌜ at + 2 ≤ length (now image) ⌝ }
+    ensures { λ r. ⌜ r ≡ num 2 at (now (image .entry)) ⌝ }
+{
+    wide(image[at + 1]) * 256 + wide(image[at])
+}
+
+// The id of the first contents entry, where the bytes reach so far. It has to be right for images that are accepted only,
+// and these have a first list.
+fn first_id(image: &[u8]) -> u16
+    ensures { λ r. ⌜ (12 ≤ length (now (image .entry)) → r ≡ num 2 10 (now (image .entry))) ⌝ }
+{
+    if image.len() < 12 {
+        return 0;
+    }
+    id_at(image, 10)
+}
+
+// Compares the first list of the old image with the first of the new one, from a header on. The old image's refusal, then
+// the new one's, then 16; then 6, 2 and 7.
+pub fn compare_first(
+    old: &[u8],
+    new: &[u8],
+    start: Wire,
+    first: &mut [u64],
+    last: &mut [u64],
+    old_answer: &mut [u16],
+    new_answer: &mut [u16],
+) -> Compared
+    ensures { λ r. ⌜ FirstCompared (now (old .entry)) (now (new .entry)) (start .0)
+        (now (first .entry)) (now (last .entry)) (now («old_answer» .entry)) (now («new_answer» .entry))
+        (now (first .exit)) (now (last .exit)) (now («old_answer» .exit)) (now («new_answer» .exit)) r ⌝ }
+{
+    compare_lists(
+        old,
+        first_id(old),
+        new,
+        first_id(new),
+        start,
+        first,
+        last,
+        old_answer,
+        new_answer,
+    )
+}
