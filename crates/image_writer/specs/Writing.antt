@@ -1,4 +1,4 @@
--- What the writer replies, and what the lent bytes hold unlessRefused (01, Refusal numbers: the writer's order).
+-- What the writer replies, and what the lent bytes hold afterwards (01, Refusal numbers: the writer's order).
 use mathlib.Core.Path.{_≡_}
 use Prim.Native.Nat.{ℕ, _+_, _*_}
 use mathlib.Core.List.{List, [], _∷_, _++_}
