@@ -179,7 +179,7 @@ fn saved(
     let lists = list_count(image);
     let mut space = io::large_buffer();
     let out: &mut [u8] = &mut space;
-    let o = image::write(
+    let o = image_writer::write(
         lists::width_of(image),
         slices::halves(ids, lists),
         slices::halves(kept, lists),

@@ -10,7 +10,6 @@ use Rattle.image.specs.declared.Listed.{Listed}
 use Rattle.image.specs.Checks.{imageCheck}
 use Rattle.image.specs.Replies.{outcomeReply, listedReply}
 use Rattle.image.specs.Calls.{widthReply, countReply, entryReply, idCheck, bodyOf, ReadOut}
-use Rattle.image.specs.Writing.{Written}
 
 -- ---- one answer for each reply
 
@@ -64,8 +63,3 @@ module _ (b : List ℕ) where
       → ReadOut b id cs vs ds x cs₁ vs₁ ds₁ → ReadOut b id cs vs ds y cs₂ vs₂ ds₂ → (x ≡ y) × (cs₁ ≡ cs₂) × (vs₁ ≡ vs₂) × (ds₁ ≡ ds₂)
   read-once id cs vs ds x y cs₁ vs₁ ds₁ cs₂ vs₂ ds₂ p q =
       (one-outcome x y (p .answer ∙ sym (q .answer)), p .cares ∙ sym (q .cares), p .values ∙ sym (q .values), p .decisions ∙ sym (q .decisions))
-
--- write
-pub write-once : (w : ℕ) (ids ns cs vs ds out : List ℕ) (x y : Outcome) (out₁ out₂ : List ℕ)
-    → Written w ids ns cs vs ds out x out₁ → Written w ids ns cs vs ds out y out₂ → (x ≡ y) × (out₁ ≡ out₂)
-write-once w ids ns cs vs ds out x y out₁ out₂ p q = (one-outcome x y (p .answer ∙ sym (q .answer)), p .bytes ∙ sym (q .bytes))

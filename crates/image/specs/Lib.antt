@@ -4,6 +4,4 @@ pub mod Checks
 pub mod Places
 pub mod Replies
 pub mod Calls
-pub mod Writing
 pub mod Filled
-pub mod Putting

@@ -1,11 +1,9 @@
-// Images that carry rule lists: checking, asking, reading and writing them, each on any bytes.
+// Images that carry rule lists: checking, asking and reading them, each on any bytes.
 mod checks;
 mod numbers;
 mod places;
-mod puts;
 mod questions;
 mod reading;
-mod writing;
 
 pub use checks::check;
 pub use questions::body;
@@ -15,7 +13,6 @@ pub use questions::entry;
 pub use questions::width;
 pub use reading::read;
 use rules::Refusal;
-pub use writing::write;
 
 // The answer to a call that gives one number.
 pub enum Outcome {

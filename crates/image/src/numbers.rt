@@ -6,15 +6,9 @@ ghost use Rattle.image.specs.Bytes.{num};
 ghost use Rattle.image.specs.Images.{ruleIn};
 use rules::Rule;
 
-// A byte, and two bytes, as numbers that sums and products have room in.
+// A byte as a number that sums and products have room in.
 pub(crate) fn wide(x: u8) -> usize
     ensures { λ r. ⌜ (r ≡ x) × (r < 256) ⌝ }
-{
-    x as usize
-}
-
-pub(crate) fn wide16(x: u16) -> usize
-    ensures { λ r. ⌜ (r ≡ x) × (r < 65536) ⌝ }
 {
     x as usize
 }

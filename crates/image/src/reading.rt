@@ -17,7 +17,7 @@ use rules::Verdict;
 use rules::put_rule;
 
 // Puts the `count` rules from byte `from` on into three slices. Later places keep their contents.
-pub(crate) fn fill(
+fn fill(
     b: &[u8],
     from: usize,
     count: usize,

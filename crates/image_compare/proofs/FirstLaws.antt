@@ -2,10 +2,9 @@
 use mathlib.Core.Path.{_≡_, refl, sym, ap, _∙_}
 use mathlib.Core.List.{List, []}
 use Prim.Native.Nat.{ℕ, _+_, _*_, _≤_}
-use mathlib.Core.Bool.{Bool, true}
 use native.Mathlib.Omega.{arith}
 use lib.ListN.{length, drop}
-use Rattle.rules.specs.Replies.{Reply, Gives, Refuses, passed, need, _then_}
+use Rattle.rules.specs.Replies.{Reply, Gives, Refuses, passed, _then_}
 use Rattle.rules.proofs.ReplyLaws.{need-yes}
 use Rattle.image.specs.Bytes.{num}
 use Rattle.image.specs.Images.{Entry, entryWith, countIn, entriesOf, rulesIn, listsIn, listsOf}

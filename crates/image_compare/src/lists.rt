@@ -1,6 +1,6 @@
 // The comparison of a list of one image with a list of another.
 ghost use mathlib.Core.Path.{_≡_};
-ghost use Prim.Native.Nat.{_+_, _≤_, _<_};
+ghost use Prim.Native.Nat.{_+_, _*_, _≤_, _<_};
 ghost use lib.ListN.{length};
 ghost use Rattle.rules.specs.Replies.{passed};
 ghost use Rattle.rules.specs.Slices.{rulesOf};
@@ -49,7 +49,7 @@ fn compare_with(
     old_answer: &mut [u16],
     new_answer: &mut [u16],
 ) -> Compared
-    requires { ⌜ (2 ≤ length (now old)) × (checkList (widthIn (now old)) 1 (now care) (now value) (now decision) ≡ passed) ⌝ }
+    requires { ⌜ (4 ≤ length (now old)) × (checkList (widthIn (now old)) 1 (now care) (now value) (now decision) ≡ passed) ⌝ }
     ensures { λ r. ⌜ RestCompared (widthIn (now (old .entry))) (rulesOf (now (care .entry)) (now (value .entry)) (now (decision .entry)))
         (now (new .entry)) «new_id» (start .0)
         (now (first .entry)) (now (last .entry)) (now («old_answer» .entry)) (now («new_answer» .entry))
@@ -127,23 +127,16 @@ pub fn compare_lists(
     }
 }
 
-// The id in the two bytes from byte `at` on.
-fn id_at(image: &[u8], at: usize) -> u16
-    requires { ⌜ at + 2 ≤ length (now image) ⌝ }
-    ensures { λ r. ⌜ r ≡ num 2 at (now (image .entry)) ⌝ }
+// The id of contents entry number k, counted from 1; 0 where the bytes end before it. It is asked before the image is checked.
+fn id_of(image: &[u8], k: usize) -> u16
+    requires { ⌜ k ≤ 16 ⌝ }
+    ensures { λ r. ⌜ (8 * k + 4 ≤ length (now (image .entry)) → r ≡ num 2 (8 * k + 2) (now (image .entry))) ⌝ }
 {
-    wide(image[at + 1]) * 256 + wide(image[at])
-}
-
-// The id of the first contents entry, where the bytes reach so far. It has to be right for images that are accepted only,
-// and these have a first list.
-fn first_id(image: &[u8]) -> u16
-    ensures { λ r. ⌜ (12 ≤ length (now (image .entry)) → r ≡ num 2 10 (now (image .entry))) ⌝ }
-{
-    if image.len() < 12 {
+    let at = 8 * k + 2;
+    if image.len() < at + 2 {
         return 0;
     }
-    id_at(image, 10)
+    wide(image[at + 1]) * 256 + wide(image[at])
 }
 
 // Compares the first list of the old image with the first of the new one, from a header on. The old image's refusal, then
@@ -163,9 +156,9 @@ pub fn compare_first(
 {
     compare_lists(
         old,
-        first_id(old),
+        id_of(old, 1),
         new,
-        first_id(new),
+        id_of(new, 1),
         start,
         first,
         last,

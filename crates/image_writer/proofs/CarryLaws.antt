@@ -1,0 +1,216 @@
+-- From a writer's arguments to lists that can be carried, and from the lists of an image back to a writer's arguments.
+use mathlib.Core.Path.{_≡_, refl, sym, ap, ap₂, _∙_}
+use mathlib.Core.List.{List, [], _∷_, _++_, map}
+use Prim.Native.Nat.{ℕ, zero, suc, _+_, _-_, _*_, _≤_, _<_}
+use native.Mathlib.Omega.{arith}
+use lib.Dec.{leb}
+use lib.ListN.{length, take, drop, length-drop, length-append}
+use lib.Seq.{length-take-le, take-at, drop-at}
+use borrow.Author.Tests.{leb-true, le-leb, eq-eqb}
+use Rattle.rules.specs.declared.Rule.{Rule}
+use Rattle.rules.specs.Lists.{All}
+use Rattle.rules.specs.Replies.{passed, need}
+use Rattle.rules.specs.Checks.{sizeCheck}
+use Rattle.rules.specs.Slices.{rulesOf}
+use Rattle.rules.proofs.ReplyLaws.{then-next, then-second, need-then, need-yes}
+use Rattle.rules.proofs.CheckLaws.{width-yes, lengths-yes, room-yes}
+use Rattle.rules.proofs.Tests.{true-and}
+use Rattle.image.specs.Bytes.{le}
+use Rattle.image.specs.Images.{Named, named, Entry, listsIn, total, countIn, widthIn, entriesIn, entriesOf, listsOf}
+use Rattle.image.specs.Checks.{entryCheck, entriesCheck, listsCheck, contentsCheck, headCheck, bodiesCheck, imageCheck}
+use Rattle.image.specs.Calls.{careOf, valueOf, decisionOf}
+use Rattle.image_writer.specs.Writing.{sumOf, cut, given, namesCheck, imageLength, givenCheck, shapeCheck, writeCheck}
+use Rattle.image.proofs.BareLaws.{bare-first, bare-entry, bare-head, bare-contents}
+use Rattle.image.proofs.HeadLaws.{entry-facts, head-facts}
+use Rattle.image.proofs.StepLaws.{contents-total}
+use Rattle.image.proofs.SeekLaws.{length-rulesIn}
+use Rattle.image_writer.proofs.WriteLaws.{WriteFacts, length-cut, rules-given}
+use Rattle.image.proofs.BackLaws.{AreBytes, bytes-drop, length-listsOf}
+use Rattle.image_writer.proofs.AgainLaws.{Rising, allRules, Carried}
+use Rattle.rules.proofs.SliceLaws.{rules-columns}
+
+-- ---- from a writer's arguments
+
+rising-cut : (l least : ℕ) (ids ns : List ℕ) (rs : List Rule) → All (λ (i : ℕ). i < 65536) ids → length ns ≡ length ids → sumOf ns ≤ length rs
+    → namesCheck l least ids ns ≡ passed → Rising least (cut ids ns rs)
+unfolding namesCheck sizeCheck cut sumOf
+rising-cut l least [] ns rs a h s f = tt
+rising-cut l least (i ∷ is) [] rs a h s f = absurd (omega arith)
+rising-cut l least (i ∷ is) (n ∷ ns) rs a h s f =
+    let g = then-second (need (leb least i) 13 l 0) _ [] f in
+    let t : length (take n rs) ≡ n = length-take-le n rs (omega arith) in
+    let few : n ≤ 1024 = leb-true _ _ (need-then (leb n 1024) 3 l 0 _ [] g) in (
+      leb-true _ _ (need-then (leb least i) 13 l 0 _ [] f),
+      a .0,
+      omega (arith, t, few),
+      rising-cut (l + 1) (i + 1) is ns (drop n rs) (a .1) (omega arith) (omega (arith, length-drop n rs)) (then-second (need (leb n 1024) 3 l 0) _ [] g),
+    )
+
+all-cut : (ids ns : List ℕ) (rs : List Rule) → length ns ≡ length ids → sumOf ns ≤ length rs → allRules (cut ids ns rs) ≡ sumOf ns
+unfolding cut sumOf
+all-cut [] [] rs h s = refl
+all-cut [] (n ∷ ns) rs h s = absurd (omega arith)
+all-cut (i ∷ is) [] rs h s = absurd (omega arith)
+all-cut (i ∷ is) (n ∷ ns) rs h s =
+    ap₂ (λ (x y : ℕ). x + y) (length-take-le n rs (omega arith)) (all-cut is ns (drop n rs) (omega arith) (omega (arith, length-drop n rs)))
+
+-- what a writer accepts can be carried
+pub facts-carried : (w : ℕ) (ids ns cs vs ds : List ℕ) (room : ℕ) → All (λ (i : ℕ). i < 65536) ids → WriteFacts w ids ns cs vs ds room → Carried w (given ids ns cs vs ds)
+facts-carried w ids ns cs vs ds room a f =
+    let s = f .shape in
+    let rs : List Rule = rulesOf cs vs ds in
+    let r : length rs ≡ length cs = rules-given w ids ns cs vs ds s in
+    let l = length-cut ids ns rs (s .paired) in
+    let fits : sumOf ns ≤ length rs = omega (arith, s .sums) in
+    record {
+      low = s .least;
+      high = s .most;
+      some = omega (arith, s .some);
+      few = omega (arith, s .few);
+      rising = rising-cut 1 0 ids ns rs a (s .paired) fits (f .names);
+      rules = f .rules;
+      size = omega (arith, f .small, l, all-cut ids ns rs (s .paired) fits, s .sums);
+    }
+
+-- ---- back to a writer's arguments
+
+abbrev pub namesOf : List Named → List ℕ
+namesOf [] = []
+namesOf (l ∷ ls) = l .id ∷ namesOf ls
+
+abbrev pub countsOf : List Named → List ℕ
+countsOf [] = []
+countsOf (l ∷ ls) = length (l .rules) ∷ countsOf ls
+
+-- all rules, list after list
+abbrev pub joined : List Named → List Rule
+joined [] = []
+joined (l ∷ ls) = l .rules ++ joined ls
+
+pub length-names : (ls : List Named) → length (namesOf ls) ≡ length ls
+length-names [] = refl
+length-names (l ∷ ls) = ap suc (length-names ls)
+
+pub length-counts : (ls : List Named) → length (countsOf ls) ≡ length ls
+length-counts [] = refl
+length-counts (l ∷ ls) = ap suc (length-counts ls)
+
+pub sum-counts : (ls : List Named) → sumOf (countsOf ls) ≡ allRules ls
+unfolding sumOf
+sum-counts [] = refl
+sum-counts (l ∷ ls) = ap (λ (k : ℕ). length (l .rules) + k) (sum-counts ls)
+
+pub length-joined : (ls : List Named) → length (joined ls) ≡ allRules ls
+length-joined [] = refl
+length-joined (l ∷ ls) = length-append (l .rules) (joined ls) ∙ ap (λ (k : ℕ). length (l .rules) + k) (length-joined ls)
+
+pub cut-joined : (ls : List Named) → cut (namesOf ls) (countsOf ls) (joined ls) ≡ ls
+unfolding cut
+cut-joined [] = refl
+cut-joined (l ∷ ls) =
+    (λ j. named (l .id) (take-at (l .rules) (joined ls) (length (l .rules)) refl j) ∷ cut (namesOf ls) (countsOf ls) (drop-at (l .rules) (joined ls) (length (l .rules)) refl j))
+    ∙ ap (λ (k : List Named). l ∷ k) (cut-joined ls)
+
+pub length-column : (f : Rule → ℕ) (rs : List Rule) → length (map f rs) ≡ length rs
+length-column f [] = refl
+length-column f (r ∷ rs) = ap suc (length-column f rs)
+
+names-rising : (l least : ℕ) (ls : List Named) → Rising least ls → namesCheck l least (namesOf ls) (countsOf ls) ≡ passed
+unfolding namesCheck sizeCheck
+names-rising l least [] r = refl
+names-rising l least (x ∷ ls) r =
+    then-next _ _ (need-yes _ 13 l 0 (le-leb least (x .id) (r .0)))
+    ∙ then-next _ _ (need-yes _ 3 l 0 (le-leb (length (x .rules)) 1024 (r .2)))
+    ∙ names-rising (l + 1) (x .id + 1) ls (r .3)
+
+-- lists that can be carried pass the writer's checks, where there is room
+pub carried-writes : (w : ℕ) (ls : List Named) (room : ℕ) → Carried w ls → imageLength (length ls) (allRules ls) ≤ room
+    → writeCheck w (namesOf ls) (countsOf ls) (map careOf (joined ls)) (map valueOf (joined ls)) (map decisionOf (joined ls)) room ≡ passed
+unfolding writeCheck shapeCheck givenCheck
+carried-writes w ls room v h =
+    let ids = namesOf ls in
+    let ns = countsOf ls in
+    let cs = map careOf (joined ls) in
+    let vs = map valueOf (joined ls) in
+    let ds = map decisionOf (joined ls) in
+    let li : length ids ≡ length ls = length-names ls in
+    let lc : length cs ≡ allRules ls = length-column careOf (joined ls) ∙ length-joined ls in
+    let lv : length vs ≡ allRules ls = length-column valueOf (joined ls) ∙ length-joined ls in
+    let ld : length ds ≡ allRules ls = length-column decisionOf (joined ls) ∙ length-joined ls in
+    let g : givenCheck ids ns cs vs ds ≡ passed = then-next _ _ (need-yes _ 2 0 0 (eq-eqb (length ids) (length ns) (li ∙ sym (length-counts ls))))
+    ∙ then-next _ _ (lengths-yes cs vs ds (lc ∙ sym lv) (lc ∙ sym ld))
+    ∙ need-yes _ 2 0 0 (eq-eqb (sumOf ns) (length cs) (sum-counts ls ∙ sym lc)) in
+    let s : shapeCheck w ids ns cs vs ds ≡ passed = then-next _ _ (width-yes w (true-and (le-leb 1 w (v .low)) (le-leb w 64 (v .high))))
+    ∙ then-next _ _ g
+    ∙ then-next _ _ (need-yes _ 12 0 0 (le-leb 1 (length ids) (omega (arith, v .some))))
+    ∙ need-yes _ 12 0 0 (le-leb (length ids) 16 (omega (arith, v .few))) in
+    let same : given ids ns cs vs ds ≡ ls = ap (cut ids ns) (rules-columns (joined ls)) ∙ cut-joined ls in
+    then-next _ _ s
+    ∙ then-next _ _ (names-rising 1 0 ls (v .rising))
+    ∙ then-next _ _ (ap (listsCheck w 1) same ∙ v .rules)
+    ∙ then-next _ _ (need-yes _ 10 0 0 (le-leb (imageLength (length ids) (length cs)) 65536 (omega (arith, v .size))))
+    ∙ room-yes _ _ (omega arith)
+
+-- ---- the lists of an image that passed can be carried
+
+rising-in : (size next least l : ℕ) (es : List Entry) (s : List ℕ) → All (λ (e : Entry). e .id < 65536) es → entriesCheck size next least l es ≡ passed → Rising least (listsIn es s)
+unfolding entriesCheck listsIn
+rising-in size next least l [] s a f = tt
+rising-in size next least l (e ∷ es) s a f =
+    let k = entry-facts size next least l e (bare-first (entryCheck size next least l e) _ (bare-entry size next least l e) [] f) in (
+      k .rises,
+      a .0,
+      omega (arith, k .few, length-rulesIn (e .count) s),
+      rising-in size (next + 18 * e .count) (e .id + 1) (l + 1) es (drop (18 * e .count) s) (a .1) (then-second (entryCheck size next least l e) _ [] f),
+    )
+
+all-in : (es : List Entry) (s : List ℕ) → allRules (listsIn es s) ≡ total es
+unfolding listsIn total
+all-in [] s = refl
+all-in (e ∷ es) s = ap₂ (λ (x y : ℕ). x + y) (length-rulesIn (e .count) s) (all-in es (drop (18 * e .count) s))
+
+sums-in : (b : List ℕ) → allRules (listsOf b) ≡ total (entriesOf b)
+unfolding listsOf
+sums-in b = all-in (entriesOf b) (drop (4 + 8 * countIn b) b)
+
+rises-in : (b : List ℕ) → All (λ (e : Entry). e .id < 65536) (entriesOf b) → contentsCheck b ≡ passed → Rising 0 (listsOf b)
+unfolding listsOf contentsCheck
+rises-in b a c = rising-in (length b) (4 + 8 * countIn b) 0 1 (entriesOf b) (drop (4 + 8 * countIn b) b) a c
+
+-- two bytes are below 65,536
+two-below : (t : List ℕ) → AreBytes t → le (take 2 t) < 65536
+unfolding le
+two-below [] h = omega arith
+two-below (x ∷ []) h = omega (arith, h .0)
+two-below (x ∷ y ∷ t) h = omega (arith, h .0, h .1 .0)
+
+ids-below : (n : ℕ) (s : List ℕ) → AreBytes s → All (λ (e : Entry). e .id < 65536) (entriesIn n s)
+unfolding entriesIn
+ids-below zero s h = tt
+ids-below (suc n) s h = (two-below (drop 6 s) (bytes-drop 6 s h), ids-below n (drop 8 s) (bytes-drop 8 s h))
+
+pub ids-fit : (b : List ℕ) → AreBytes b → All (λ (e : Entry). e .id < 65536) (entriesOf b)
+unfolding entriesOf
+ids-fit b h = ids-below (countIn b) (drop 4 b) (bytes-drop 4 b h)
+
+pub image-carried : (b : List ℕ) → All (λ (e : Entry). e .id < 65536) (entriesOf b) → imageCheck b ≡ passed
+    → Carried (widthIn b) (listsOf b) × (imageLength (length (listsOf b)) (allRules (listsOf b)) ≡ length b)
+unfolding imageCheck contentsCheck bodiesCheck
+image-carried b a f =
+    let k = head-facts b (bare-first (headCheck b) _ (bare-head b) [] f) in
+    let g = then-second (headCheck b) _ [] f in
+    let c : contentsCheck b ≡ passed = bare-first (contentsCheck b) _ (bare-contents b) [] g in
+    let l = length-listsOf b in
+    let n = sums-in b in
+    let t = contents-total b c in (
+      record {
+        low = k .wide;
+        high = k .narrow;
+        some = omega (arith, k .some);
+        few = omega (arith, k .few);
+        rising = rises-in b a c;
+        rules = then-second (contentsCheck b) _ [] g;
+        size = omega (arith, k .most);
+      },
+      omega arith,
+    )

@@ -1,0 +1,298 @@
+-- The writer's checks, and how the lists that it is given follow the slices.
+use mathlib.Core.Path.{_≡_, refl, sym, ap, ap₂, _∙_}
+use mathlib.Core.List.{List, [], _∷_}
+use mathlib.Core.Bool.{Bool, true, false}
+use Prim.Native.Nat.{ℕ, zero, suc, _+_, _-_, _*_, _≤_, _<_}
+use native.Mathlib.Numerals.{add-one}
+use native.Mathlib.Omega.{arith}
+use lib.Dec.{leb, eqb}
+use lib.ListN.{length, getD, take, drop, drop-of-length-le}
+use lib.Seq.{drop-cons, drop-drop}
+use borrow.Author.Tests.{eq-eqb, ne-eqb, le-leb, lt-leb, leb-true}
+use Rattle.rules.specs.declared.Rule.{Rule}
+use Rattle.rules.specs.declared.Refusal.{Refusal}
+use Rattle.rules.specs.declared.Verdict.{Verdict}
+use Rattle.rules.specs.Replies.{Refuses, passed, need, _then_, verdictReply}
+use Rattle.rules.specs.Checks.{widthCheck, lengthsCheck, sizeCheck, rulesCheck, roomCheck}
+use Rattle.rules.specs.Calls.{checkList}
+use Rattle.rules.specs.Slices.{rulesOf, Lent}
+use Rattle.rules.proofs.Tests.{true-and, and-true, same-test, eqb-yes, yes-eqb}
+use Rattle.rules.proofs.ReplyLaws.{then-next, then-refuses, fine-next, verdict-stop, need-yes, need-no, need-then, need-passed, then-second}
+use Rattle.rules.proofs.CheckLaws.{width-yes, width-then, width-passed, list-rules, lengths-values, lengths-decisions, lengths-yes, room-yes, room-no}
+use Rattle.rules.proofs.SliceLaws.{rules-take}
+use Rattle.image.specs.Bytes.{part}
+use Rattle.image.specs.Checks.{listsCheck}
+use Rattle.image_writer.specs.Writing.{sumOf, cut, given, namesCheck, imageLength, givenCheck, shapeCheck, writeCheck}
+use Rattle.image.proofs.NumberLaws.{length-part}
+use Rattle.image.proofs.BareLaws.{Bare, bare-need, bare-then, bare-first}
+
+-- ---- counts
+
+pub sum-turn : (ns : List ℕ) (i : ℕ) → i < length ns → sumOf (drop i ns) ≡ getD ns i 0 + sumOf (drop (i + 1) ns)
+unfolding sumOf
+sum-turn ns i h = ap sumOf (drop-cons ns i 0 h) ∙ ap (λ (k : ℕ). getD ns i 0 + sumOf (drop k ns)) (sym (add-one i))
+
+pub sum-end : (ns : List ℕ) (i : ℕ) → length ns ≤ i → sumOf (drop i ns) ≡ 0
+unfolding sumOf
+sum-end ns i h = ap sumOf (drop-of-length-le ns h)
+
+-- counted down: what is left of the rules, and what is left of the counts
+pub sum-over : (ns : List ℕ) (i n left rules : ℕ) → i < length ns → n ≡ getD ns i 0 → rules + sumOf (drop i ns) ≡ left + sumOf ns → left < n
+    → false ≡ eqb (sumOf ns) rules
+sum-over ns i n left rules h e k l = sym (ne-eqb (sumOf ns) rules (λ p. omega (arith, sum-turn ns i h)))
+
+pub sum-all : (ns : List ℕ) (i left rules : ℕ) → length ns ≤ i → rules + sumOf (drop i ns) ≡ left + sumOf ns → eqb left 0 ≡ eqb (sumOf ns) rules
+sum-all ns i left rules h k =
+    same-test (eqb left 0) (eqb (sumOf ns) rules)
+    (λ e. yes-eqb (sumOf ns) rules (omega (arith, eqb-yes left 0 e, sum-end ns i h)))
+    (λ e. yes-eqb left 0 (omega (arith, eqb-yes (sumOf ns) rules e, sum-end ns i h)))
+
+-- ---- refusal 2
+
+module _ (ids ns cs vs ds : List ℕ) where
+  pub given-ids : (length ids ≡ length ns → ⊥) → Refuses 2 0 0 ≡ givenCheck ids ns cs vs ds
+  unfolding givenCheck
+  given-ids n = sym (then-refuses _ _ (need-no _ 2 0 0 (ne-eqb (length ids) (length ns) n)))
+
+  module _ (l : length ids ≡ length ns) where
+    given-lists : givenCheck ids ns cs vs ds ≡ (lengthsCheck cs vs ds then need (eqb (sumOf ns) (length cs)) 2 0 0)
+    unfolding givenCheck
+    given-lists = then-next _ _ (need-yes _ 2 0 0 (eq-eqb (length ids) (length ns) l))
+
+    pub given-values : (length cs ≡ length vs → ⊥) → Refuses 2 0 0 ≡ givenCheck ids ns cs vs ds
+    given-values n = sym (given-lists ∙ then-refuses _ _ (lengths-values cs vs ds n))
+
+    pub given-decisions : length cs ≡ length vs → (length cs ≡ length ds → ⊥) → Refuses 2 0 0 ≡ givenCheck ids ns cs vs ds
+    given-decisions e n = sym (given-lists ∙ then-refuses _ _ (lengths-decisions cs vs ds e n))
+
+    module _ (e : length cs ≡ length vs) (f : length cs ≡ length ds) (t : Bool) (a : t ≡ eqb (sumOf ns) (length cs)) where
+      pub given-fine : t ≡ true → passed ≡ givenCheck ids ns cs vs ds
+      given-fine b = sym (given-lists ∙ then-next _ _ (lengths-yes cs vs ds e f) ∙ need-yes _ 2 0 0 (sym a ∙ b))
+
+      pub given-sum : t ≡ false → Refuses 2 0 0 ≡ givenCheck ids ns cs vs ds
+      given-sum b = sym (given-lists ∙ then-next _ _ (lengths-yes cs vs ds e f) ∙ need-no _ 2 0 0 (sym a ∙ b))
+
+-- ---- refusals 1, 2 and 12
+
+module _ (w : ℕ) (ids ns cs vs ds : List ℕ) where
+  pub shape-low : w < 1 → Refuses 1 0 0 ≡ shapeCheck w ids ns cs vs ds
+  unfolding shapeCheck widthCheck
+  shape-low h = simp lt-leb
+
+  pub shape-high : 1 ≤ w → 64 < w → Refuses 1 0 0 ≡ shapeCheck w ids ns cs vs ds
+  unfolding shapeCheck widthCheck
+  shape-high h k = simp (le-leb, lt-leb)
+
+  module _ (h : 1 ≤ w) (k : w ≤ 64) (v : Verdict) (p : verdictReply v ≡ givenCheck ids ns cs vs ds) where
+    shape-width : shapeCheck w ids ns cs vs ds ≡ (givenCheck ids ns cs vs ds then need (leb 1 (length ids)) 12 0 0 then need (leb (length ids) 16) 12 0 0)
+    unfolding shapeCheck
+    shape-width = then-next _ _ (width-yes w (true-and (le-leb 1 w h) (le-leb w 64 k)))
+
+    pub shape-given : {x : Refusal} → v ≡ Verdict.Refused x → verdictReply v ≡ shapeCheck w ids ns cs vs ds
+    shape-given q = sym (shape-width ∙ verdict-stop v _ _ p q)
+
+    pub shape-none : v ≡ Verdict.Fine → length ids < 1 → Refuses 12 0 0 ≡ shapeCheck w ids ns cs vs ds
+    shape-none q l = sym (shape-width ∙ fine-next v _ _ p q ∙ simp lt-leb)
+
+    pub shape-many : v ≡ Verdict.Fine → 1 ≤ length ids → 16 < length ids → Refuses 12 0 0 ≡ shapeCheck w ids ns cs vs ds
+    shape-many q l m = sym (shape-width ∙ fine-next v _ _ p q ∙ simp (le-leb, lt-leb))
+
+    pub shape-fine : v ≡ Verdict.Fine → 1 ≤ length ids → length ids ≤ 16 → passed ≡ shapeCheck w ids ns cs vs ds
+    shape-fine q l m = sym (shape-width ∙ fine-next v _ _ p q ∙ simp le-leb)
+
+-- what passing them says
+pub record Shape (w : ℕ) (ids ns cs vs ds : List ℕ) : Type 0 where
+  pub least : 1 ≤ w
+  pub most : w ≤ 64
+  pub paired : length ns ≡ length ids
+  pub lent : Lent cs vs ds
+  pub sums : sumOf ns ≡ length cs
+  pub some : 1 ≤ length ids
+  pub few : length ids ≤ 16
+
+bare-given : (ids ns cs vs ds : List ℕ) → Bare (givenCheck ids ns cs vs ds)
+unfolding givenCheck
+bare-given ids ns cs vs ds =
+    bare-then (need (eqb (length ids) (length ns)) 2 0 0) _
+    (bare-then (lengthsCheck cs vs ds) _ (bare-need (eqb (sumOf ns) (length cs)) 2 0 0))
+
+pub bare-shape : (w : ℕ) (ids ns cs vs ds : List ℕ) → Bare (shapeCheck w ids ns cs vs ds)
+unfolding shapeCheck
+bare-shape w ids ns cs vs ds =
+    bare-then (widthCheck w) _
+    (bare-then (givenCheck ids ns cs vs ds) _
+    (bare-then (need (leb 1 (length ids)) 12 0 0) _ (bare-need (leb (length ids) 16) 12 0 0)))
+
+pub shape-facts : (w : ℕ) (ids ns cs vs ds : List ℕ) → shapeCheck w ids ns cs vs ds ≡ passed → Shape w ids ns cs vs ds
+unfolding shapeCheck givenCheck lengthsCheck
+shape-facts w ids ns cs vs ds f =
+    let width = width-passed w (width-then w _ [] f) in
+    let g = then-second (widthCheck w) _ [] f in
+    let h = then-second (givenCheck ids ns cs vs ds) _ [] g in
+    let i = then-second (need (leb 1 (length ids)) 12 0 0) _ [] h in
+    let two = bare-first (givenCheck ids ns cs vs ds) _ (bare-given ids ns cs vs ds) [] g in
+    let three = then-second (need (eqb (length ids) (length ns)) 2 0 0) _ [] two in
+    let lengths = and-true (eqb (length cs) (length vs)) (eqb (length cs) (length ds)) (need-then _ 2 0 0 _ [] three) in
+    let sum = need-passed (eqb (sumOf ns) (length cs)) 2 0 0 (then-second (lengthsCheck cs vs ds) _ [] three) in
+    record {
+      least = width .0;
+      most = width .1;
+      paired = sym (eqb-yes _ _ (need-then (eqb (length ids) (length ns)) 2 0 0 _ [] two));
+      lent = record { values = sym (eqb-yes _ _ (lengths .0)); decisions = sym (eqb-yes _ _ (lengths .1)) };
+      sums = eqb-yes _ _ sum;
+      some = leb-true _ _ (need-then (leb 1 (length ids)) 12 0 0 _ [] h);
+      few = leb-true _ _ (need-passed (leb (length ids) 16) 12 0 0 i);
+    }
+
+-- ---- refusals 13 and 3
+
+module _ (least i : ℕ) (ids ns : List ℕ) (h : i < length ids) (l : length ns ≡ length ids) where
+  names-turn : namesCheck (i + 1) least (drop i ids) (drop i ns)
+      ≡ (need (leb least (getD ids i 0)) 13 (i + 1) 0 then sizeCheck (i + 1) (getD ns i 0) then namesCheck (i + 1 + 1) (getD ids i 0 + 1) (drop (i + 1) ids) (drop (i + 1) ns))
+  unfolding namesCheck
+  names-turn =
+      ap₂ (namesCheck (i + 1) least) (drop-cons ids i 0 h) (drop-cons ns i 0 (omega arith))
+      ∙ ap (λ (k : ℕ). need (leb least (getD ids i 0)) 13 (i + 1) 0 then sizeCheck (i + 1) (getD ns i 0) then namesCheck (i + 1 + 1) (getD ids i 0 + 1) (drop k ids) (drop k ns)) (sym (add-one i))
+
+  module _ (id : ℕ) (e : id ≡ getD ids i 0) where
+    pub names-thirteen : id < least → namesCheck (i + 1) least (drop i ids) (drop i ns) ≡ Refuses 13 (i + 1) 0
+    names-thirteen m = names-turn ∙ then-refuses _ _ (need-no _ 13 (i + 1) 0 (lt-leb least (getD ids i 0) (omega (arith, e))))
+
+    module _ (m : least ≤ id) (n : ℕ) (f : n ≡ getD ns i 0) where
+      names-sized : namesCheck (i + 1) least (drop i ids) (drop i ns)
+          ≡ (sizeCheck (i + 1) (getD ns i 0) then namesCheck (i + 1 + 1) (getD ids i 0 + 1) (drop (i + 1) ids) (drop (i + 1) ns))
+      names-sized = names-turn ∙ then-next _ _ (need-yes _ 13 (i + 1) 0 (le-leb least (getD ids i 0) (omega (arith, e))))
+
+      pub names-three : 1024 < n → namesCheck (i + 1) least (drop i ids) (drop i ns) ≡ Refuses 3 (i + 1) 0
+      unfolding sizeCheck
+      names-three k = names-sized ∙ then-refuses _ _ (need-no _ 3 (i + 1) 0 (lt-leb (getD ns i 0) 1024 (omega (arith, f))))
+
+      pub names-pass : n ≤ 1024 → namesCheck (i + 1) least (drop i ids) (drop i ns) ≡ namesCheck (i + 1 + 1) (id + 1) (drop (i + 1) ids) (drop (i + 1) ns)
+      unfolding sizeCheck
+      names-pass k =
+          names-sized ∙ then-next _ _ (need-yes _ 3 (i + 1) 0 (le-leb (getD ns i 0) 1024 (omega (arith, f))))
+          ∙ ap (λ (x : ℕ). namesCheck (i + 1 + 1) (x + 1) (drop (i + 1) ids) (drop (i + 1) ns)) (sym e)
+
+pub names-end : (least i : ℕ) (ids ns : List ℕ) → length ids ≤ i → namesCheck (i + 1) least (drop i ids) (drop i ns) ≡ passed
+unfolding namesCheck
+names-end least i ids ns h = ap (λ (k : List ℕ). namesCheck (i + 1) least k (drop i ns)) (drop-of-length-le ids h)
+
+pub bare-names : (l least : ℕ) (ids ns : List ℕ) → Bare (namesCheck l least ids ns)
+unfolding namesCheck
+bare-names l least [] ns ms e = refl
+bare-names l least (i ∷ is) [] ms e = refl
+bare-names l least (i ∷ is) (n ∷ ns) ms e =
+    bare-then (need (leb least i) 13 l 0) _ (bare-then (sizeCheck l n) _ (bare-names (l + 1) (i + 1) is ns)) ms e
+
+-- no list of names that passed is too long
+pub names-small : (l least : ℕ) (ids ns : List ℕ) (i : ℕ) → length ns ≡ length ids → namesCheck l least ids ns ≡ passed → getD ns i 0 ≤ 1024
+unfolding namesCheck sizeCheck
+names-small l least [] [] i e f = omega arith
+names-small l least [] (n ∷ ns) i e f = absurd (omega arith)
+names-small l least (k ∷ is) [] i e f = absurd (omega arith)
+names-small l least (k ∷ is) (n ∷ ns) zero e f =
+    leb-true _ _ (need-then (leb n 1024) 3 l 0 _ [] (then-second (need (leb least k) 13 l 0) _ [] f))
+names-small l least (k ∷ is) (n ∷ ns) (suc i) e f =
+    names-small (l + 1) (k + 1) is ns i (omega arith) (then-second (need (leb n 1024) 3 l 0) _ [] (then-second (need (leb least k) 13 l 0) _ [] f))
+
+pub names-sum : (l least : ℕ) (ids ns : List ℕ) → length ns ≡ length ids → namesCheck l least ids ns ≡ passed → sumOf ns ≤ 1024 * length ids
+unfolding namesCheck sizeCheck sumOf
+names-sum l least [] [] e f = omega arith
+names-sum l least [] (n ∷ ns) e f = absurd (omega arith)
+names-sum l least (k ∷ is) [] e f = absurd (omega arith)
+names-sum l least (k ∷ is) (n ∷ ns) e f =
+    let s = then-second (need (leb least k) 13 l 0) _ [] f in
+    let small : n ≤ 1024 = leb-true _ _ (need-then (leb n 1024) 3 l 0 _ [] s) in
+    omega (arith, names-sum (l + 1) (k + 1) is ns (omega arith) (then-second (need (leb n 1024) 3 l 0) _ [] s))
+
+-- ---- the rules of each list
+
+rules-no-values : (cs ds : List ℕ) → rulesOf cs [] ds ≡ []
+unfolding rulesOf
+rules-no-values [] ds = refl
+rules-no-values (c ∷ cs) ds = refl
+
+rules-no-decisions : (cs vs : List ℕ) → rulesOf cs vs [] ≡ []
+unfolding rulesOf
+rules-no-decisions [] vs = refl
+rules-no-decisions (c ∷ cs) [] = refl
+rules-no-decisions (c ∷ cs) (v ∷ vs) = refl
+
+pub rules-drop : (n : ℕ) (cs vs ds : List ℕ) → rulesOf (drop n cs) (drop n vs) (drop n ds) ≡ drop n (rulesOf cs vs ds)
+unfolding rulesOf
+rules-drop zero cs vs ds = refl
+rules-drop (suc n) [] vs ds = refl
+rules-drop (suc n) (c ∷ cs) [] ds = rules-no-values (drop n cs) (drop (suc n) ds)
+rules-drop (suc n) (c ∷ cs) (v ∷ vs) [] = rules-no-decisions (drop n cs) (drop n vs)
+rules-drop (suc n) (c ∷ cs) (v ∷ vs) (d ∷ ds) = rules-drop n cs vs ds
+
+-- the rule library's check of a part of the three slices
+list-part : (w l from n : ℕ) (cs vs ds : List ℕ) → 1 ≤ w → w ≤ 64 → Lent cs vs ds → from + n ≤ length cs → n ≤ 1024
+    → checkList w l (part n from cs) (part n from vs) (part n from ds) ≡ rulesCheck w l 1 (take n (drop from (rulesOf cs vs ds)))
+list-part w l from n cs vs ds a b lent h k =
+    let x = length-part n from cs h in
+    let y = length-part n from vs (omega (arith, lent .values)) in
+    let z = length-part n from ds (omega (arith, lent .decisions)) in
+    list-rules w l (part n from cs) (part n from vs) (part n from ds) (true-and (le-leb 1 w a) (le-leb w 64 b)) (x ∙ sym y) (x ∙ sym z) (omega (arith, x))
+    ∙ ap (rulesCheck w l 1) (rules-take n (drop from cs) (drop from vs) (drop from ds) ∙ ap (take n) (rules-drop from cs vs ds))
+
+module _ (w i from n : ℕ) (ids ns : List ℕ) (rs : List Rule) (h : i < length ids) (l : length ns ≡ length ids) (e : n ≡ getD ns i 0) where
+  cut-turn : listsCheck w (i + 1) (cut (drop i ids) (drop i ns) (drop from rs))
+      ≡ (rulesCheck w (i + 1) 1 (take n (drop from rs)) then listsCheck w (i + 1 + 1) (cut (drop (i + 1) ids) (drop (i + 1) ns) (drop (from + n) rs)))
+  unfolding listsCheck cut
+  cut-turn =
+      (λ j. listsCheck w (i + 1) (cut (drop-cons ids i 0 h j) (drop-cons ns i 0 (omega arith) j) (drop from rs)))
+      ∙ (λ j. rulesCheck w (i + 1) 1 (take (sym e j) (drop from rs)) then listsCheck w (i + 1 + 1) (cut (drop (sym (add-one i) j) ids) (drop (sym (add-one i) j) ns) (drop (sym e j) (drop from rs))))
+      ∙ ap (λ (k : List Rule). rulesCheck w (i + 1) 1 (take n (drop from rs)) then listsCheck w (i + 1 + 1) (cut (drop (i + 1) ids) (drop (i + 1) ns) k)) (drop-drop n from rs)
+
+module _ (w i from n end : ℕ) (ids ns cs vs ds : List ℕ) (h : i < length ids) (l : length ns ≡ length ids) (e : n ≡ getD ns i 0) (low : 1 ≤ w) (high : w ≤ 64) (lent : Lent cs vs ds)
+    (fits : from + n ≤ length cs) (small : n ≤ 1024) (is : end - from ≡ n) (v : Verdict)
+    (p : verdictReply v ≡ checkList w (i + 1) (take (end - from) (drop from cs)) (take (end - from) (drop from vs)) (take (end - from) (drop from ds))) where
+  told : verdictReply v ≡ rulesCheck w (i + 1) 1 (take n (drop from (rulesOf cs vs ds)))
+  told = p ∙ ap (λ (k : ℕ). checkList w (i + 1) (part k from cs) (part k from vs) (part k from ds)) is ∙ list-part w (i + 1) from n cs vs ds low high lent fits small
+
+  pub cut-stop : {x : Refusal} → v ≡ Verdict.Refused x → listsCheck w (i + 1) (cut (drop i ids) (drop i ns) (drop from (rulesOf cs vs ds))) ≡ verdictReply v
+  cut-stop q = cut-turn w i from n ids ns (rulesOf cs vs ds) h l e ∙ verdict-stop v _ _ told q
+
+  pub cut-pass : end ≡ from + n → v ≡ Verdict.Fine
+      → listsCheck w (i + 1) (cut (drop i ids) (drop i ns) (drop from (rulesOf cs vs ds))) ≡ listsCheck w (i + 1 + 1) (cut (drop (i + 1) ids) (drop (i + 1) ns) (drop end (rulesOf cs vs ds)))
+  cut-pass z q =
+      cut-turn w i from n ids ns (rulesOf cs vs ds) h l e ∙ fine-next v _ _ told q
+      ∙ ap (λ (k : ℕ). listsCheck w (i + 1 + 1) (cut (drop (i + 1) ids) (drop (i + 1) ns) (drop k (rulesOf cs vs ds)))) (sym z)
+
+pub cut-end : (w i : ℕ) (ids ns : List ℕ) (rs : List Rule) → length ids ≤ i → listsCheck w (i + 1) (cut (drop i ids) (drop i ns) rs) ≡ passed
+unfolding listsCheck cut
+cut-end w i ids ns rs h = ap (λ (k : List ℕ). listsCheck w (i + 1) (cut k (drop i ns) rs)) (drop-of-length-le ids h)
+
+-- ---- all checks
+
+module _ (w : ℕ) (ids ns cs vs ds : List ℕ) (room : ℕ) (s : Verdict) (ps : verdictReply s ≡ shapeCheck w ids ns cs vs ds) where
+  pub write-shape : {x : Refusal} → s ≡ Verdict.Refused x → verdictReply s ≡ writeCheck w ids ns cs vs ds room
+  unfolding writeCheck
+  write-shape q = sym (verdict-stop s _ _ ps q)
+
+  module _ (fs : s ≡ Verdict.Fine) (n : Verdict) (pn : verdictReply n ≡ namesCheck 1 0 ids ns) where
+    pub write-names : {x : Refusal} → n ≡ Verdict.Refused x → verdictReply n ≡ writeCheck w ids ns cs vs ds room
+    unfolding writeCheck
+    write-names q = sym (fine-next s _ _ ps fs ∙ verdict-stop n _ _ pn q)
+
+    module _ (fn : n ≡ Verdict.Fine) (l : Verdict) (pl : verdictReply l ≡ listsCheck w 1 (given ids ns cs vs ds)) where
+      pub write-lists : {x : Refusal} → l ≡ Verdict.Refused x → verdictReply l ≡ writeCheck w ids ns cs vs ds room
+      unfolding writeCheck
+      write-lists q = sym (fine-next s _ _ ps fs ∙ fine-next n _ _ pn fn ∙ verdict-stop l _ _ pl q)
+
+      module _ (fl : l ≡ Verdict.Fine) where
+        write-rest : writeCheck w ids ns cs vs ds room
+            ≡ (need (leb (imageLength (length ids) (length cs)) 65536) 10 0 0 then roomCheck (imageLength (length ids) (length cs)) room)
+        unfolding writeCheck
+        write-rest = fine-next s _ _ ps fs ∙ fine-next n _ _ pn fn ∙ fine-next l _ _ pl fl
+
+        pub write-ten : 65536 < imageLength (length ids) (length cs) → Refuses 10 0 0 ≡ writeCheck w ids ns cs vs ds room
+        write-ten h = sym (write-rest ∙ then-refuses _ _ (need-no _ 10 0 0 (lt-leb (imageLength (length ids) (length cs)) 65536 h)))
+
+        module _ (h : imageLength (length ids) (length cs) ≤ 65536) where
+          pub write-seven : room < imageLength (length ids) (length cs) → Refuses 7 0 0 ≡ writeCheck w ids ns cs vs ds room
+          write-seven k = sym (write-rest ∙ then-next _ _ (need-yes _ 10 0 0 (le-leb (imageLength (length ids) (length cs)) 65536 h)) ∙ room-no _ _ k)
+
+          pub write-fine : imageLength (length ids) (length cs) ≤ room → passed ≡ writeCheck w ids ns cs vs ds room
+          write-fine k = sym (write-rest ∙ then-next _ _ (need-yes _ 10 0 0 (le-leb (imageLength (length ids) (length cs)) 65536 h)) ∙ room-yes _ _ k)

@@ -1,0 +1,8 @@
+-- The laws of written images, for this crate's proofs and for the crates above it.
+pub mod PutLaws
+pub mod GivenLaws
+pub mod WriteLaws
+pub mod AgainLaws
+pub mod CarryLaws
+pub mod Theorems
+pub mod Unique

@@ -1,0 +1,79 @@
+-- What the writer replies, and what the lent bytes hold afterwards (01, Refusal numbers: the writer's order).
+use mathlib.Core.Path.{_≡_}
+use Prim.Native.Nat.{ℕ, _+_, _*_}
+use mathlib.Core.List.{List, [], _∷_, _++_}
+use lib.ListN.{length, take, drop}
+use lib.Dec.{leb, eqb}
+use Rattle.rules.specs.declared.Rule.{Rule}
+use Rattle.rules.specs.Slices.{rulesOf}
+use Rattle.rules.specs.Replies.{Reply, Gives, passed, need, _then_, unlessRefused}
+use Rattle.rules.specs.Checks.{widthCheck, lengthsCheck, sizeCheck, roomCheck}
+use Rattle.image.specs.declared.Outcome.{Outcome}
+use Rattle.image.specs.Images.{Named, named, bytesOf}
+use Rattle.image.specs.Checks.{listsCheck}
+use Rattle.image.specs.Replies.{outcomeReply}
+
+unfoldable pub sumOf : List ℕ → ℕ
+sumOf [] = 0
+sumOf (n ∷ ns) = n + sumOf ns
+
+-- Rules one after the other, cut into lists: as many for each id as its count says.
+unfoldable pub cut : (ids counts : List ℕ) → List Rule → List Named
+cut [] ns rs = []
+cut (i ∷ is) [] rs = []
+cut (i ∷ is) (n ∷ ns) rs = named i (take n rs) ∷ cut is ns (drop n rs)
+
+-- The lists that a writer is given.
+abbrev pub given : (ids counts cares values decisions : List ℕ) → List Named
+given ids ns cs vs ds = cut ids ns (rulesOf cs vs ds)
+
+-- The lists from number l on: the id is `least` or more, then at most 1,024 rules; the next id is greater than this one.
+unfoldable pub namesCheck : (l least : ℕ) → (ids counts : List ℕ) → Reply
+namesCheck l least [] ns = passed
+namesCheck l least (i ∷ is) [] = passed
+namesCheck l least (i ∷ is) (n ∷ ns) =
+    need (leb least i) 13 l 0
+    then sizeCheck l n
+    then namesCheck (l + 1) (i + 1) is ns
+
+-- The bytes of an image of so many lists and rules.
+abbrev pub imageLength : (lists rules : ℕ) → ℕ
+imageLength l n = 4 + 8 * l + 18 * n
+
+-- 2: slices that belong together differ in length, or the counts do not add up to the rules given.
+unfoldable pub givenCheck : (ids counts cares values decisions : List ℕ) → Reply
+givenCheck ids ns cs vs ds =
+    need (eqb (length ids) (length ns)) 2 0 0
+    then lengthsCheck cs vs ds
+    then need (eqb (sumOf ns) (length cs)) 2 0 0
+
+-- 1, 2 and 12 (the number of lists).
+unfoldable pub shapeCheck : (w : ℕ) → (ids counts cares values decisions : List ℕ) → Reply
+shapeCheck w ids ns cs vs ds =
+    widthCheck w
+    then givenCheck ids ns cs vs ds
+    then need (leb 1 (length ids)) 12 0 0
+    then need (leb (length ids) 16) 12 0 0
+
+-- The writer's checks: 1, 2, 12, per list 13 and 3, the rules, 10, 7.
+unfoldable pub writeCheck : (w : ℕ) → (ids counts cares values decisions : List ℕ) → (room : ℕ) → Reply
+writeCheck w ids ns cs vs ds room =
+    shapeCheck w ids ns cs vs ds
+    then namesCheck 1 0 ids ns
+    then listsCheck w 1 (given ids ns cs vs ds)
+    then need (leb (imageLength (length ids) (length cs)) 65536) 10 0 0
+    then roomCheck (imageLength (length ids) (length cs)) room
+
+-- The answer is the image's length.
+unfoldable pub writeReply : (w : ℕ) → (ids counts cares values decisions out : List ℕ) → Reply
+writeReply w ids ns cs vs ds out =
+    writeCheck w ids ns cs vs ds (length out) then Gives (imageLength (length ids) (length cs) ∷ [])
+
+-- Bytes that held `out`, after an image went into them from the first on: later bytes are as they were.
+abbrev pub imaged : (image out : List ℕ) → List ℕ
+imaged bs out = bs ++ drop (length bs) out
+
+-- Writing: the answer, and the lent bytes afterwards.
+pub record Written (w : ℕ) (ids ns cs vs ds out : List ℕ) (r : Outcome) (out′ : List ℕ) : Type 0 where
+  pub answer : outcomeReply r ≡ writeReply w ids ns cs vs ds out
+  pub bytes : out′ ≡ unlessRefused (writeReply w ids ns cs vs ds out) (imaged (bytesOf w (given ids ns cs vs ds)) out) out

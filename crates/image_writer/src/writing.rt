@@ -1,0 +1,215 @@
+// Writing an image of lists: every check comes before the first byte.
+ghost use mathlib.Core.Path.{_≡_};
+ghost use Prim.Native.Nat.{_+_, _*_, _≤_};
+ghost use lib.Dec.{eqb};
+ghost use lib.ListN.{length};
+ghost use Rattle.rules.specs.Replies.{verdictReply, passed, Refuses};
+ghost use Rattle.rules.specs.Slices.{Lent};
+ghost use Rattle.image.specs.Checks.{listsCheck};
+ghost use Rattle.image_writer.specs.Writing.{sumOf, given, namesCheck, givenCheck, shapeCheck, writeCheck, Written};
+use crate::puts::put_contents;
+use crate::puts::put_head;
+use crate::puts::put_rules;
+use crate::puts::wide16;
+use image::Outcome;
+use rules::Refusal;
+use rules::Verdict;
+use rules::check_list_as;
+
+// A refusal as a verdict.
+fn refused(number: usize, list: usize, rule: usize) -> Verdict
+    ensures { λ r. ⌜ verdictReply r ≡ Refuses number list rule ⌝ }
+{
+    Verdict::Refused(Refusal { number, list, rule })
+}
+
+// Whether counts add up to a number of rules. What is left of it is counted down, so that no sum can wrap.
+fn adds_up(counts: &[u16], rules: usize) -> bool
+    ensures { λ r. ⌜ r ≡ eqb (sumOf (now (counts .entry))) rules ⌝ }
+{
+    let mut left = rules;
+    let mut i: usize = 0;
+    while i < counts.len() {
+        let count = wide16(counts[i]);
+        if count > left {
+            return false;
+        }
+        left -= count;
+        i += 1;
+    }
+    left == 0
+}
+
+// Refusal 2: the lengths of the slices, and the counts.
+fn given_verdict(
+    ids: &[u16],
+    counts: &[u16],
+    care: &[u64],
+    value: &[u64],
+    decision: &[u16],
+) -> Verdict
+    ensures { λ r. ⌜ verdictReply r ≡ givenCheck (now (ids .entry)) (now (counts .entry))
+        (now (care .entry)) (now (value .entry)) (now (decision .entry)) ⌝ }
+{
+    if ids.len() != counts.len() {
+        return refused(2, 0, 0);
+    }
+    if care.len() != value.len() {
+        return refused(2, 0, 0);
+    }
+    if care.len() != decision.len() {
+        return refused(2, 0, 0);
+    }
+    if adds_up(counts, care.len()) {
+        return Verdict::Fine;
+    }
+    refused(2, 0, 0)
+}
+
+// Refusals 1, 2 and 12.
+fn shape_verdict(
+    width: u32,
+    ids: &[u16],
+    counts: &[u16],
+    care: &[u64],
+    value: &[u64],
+    decision: &[u16],
+) -> Verdict
+    ensures { λ r. ⌜ verdictReply r ≡ shapeCheck width (now (ids .entry)) (now (counts .entry))
+        (now (care .entry)) (now (value .entry)) (now (decision .entry)) ⌝ }
+{
+    if width < 1 {
+        return refused(1, 0, 0);
+    }
+    if width > 64 {
+        return refused(1, 0, 0);
+    }
+    let v = given_verdict(ids, counts, care, value, decision);
+    let Verdict::Fine = v else {
+        return v;
+    };
+    if ids.len() < 1 {
+        return refused(12, 0, 0);
+    }
+    if ids.len() > 16 {
+        return refused(12, 0, 0);
+    }
+    Verdict::Fine
+}
+
+// Refusals 13 and 3, list by list.
+fn names_verdict(ids: &[u16], counts: &[u16]) -> Verdict
+    requires { ⌜ length (now counts) ≡ length (now ids) ⌝ }
+    ensures { λ r. ⌜ verdictReply r ≡ namesCheck 1 0 (now (ids .entry)) (now (counts .entry)) ⌝ }
+{
+    let mut least: usize = 0;
+    let mut i: usize = 0;
+    while i < ids.len() {
+        let id = wide16(ids[i]);
+        if id < least {
+            return refused(13, i + 1, 0);
+        }
+        if wide16(counts[i]) > 1024 {
+            return refused(3, i + 1, 0);
+        }
+        least = id + 1;
+        i += 1;
+    }
+    Verdict::Fine
+}
+
+// The rules of each list, as the rule library checks a list.
+fn lists_verdict(
+    width: u32,
+    ids: &[u16],
+    counts: &[u16],
+    care: &[u64],
+    value: &[u64],
+    decision: &[u16],
+) -> Verdict
+    requires { ⌜ (1 ≤ width) × (width ≤ 64) × (length (now counts) ≡ length (now ids))
+        × (sumOf (now counts) ≡ length (now care)) × Lent (now care) (now value) (now decision)
+        × (namesCheck 1 0 (now ids) (now counts) ≡ passed) ⌝ }
+    ensures { λ r. ⌜ verdictReply r ≡ listsCheck width 1 (given (now (ids .entry)) (now (counts .entry))
+        (now (care .entry)) (now (value .entry)) (now (decision .entry))) ⌝ }
+{
+    let mut from: usize = 0;
+    let mut i: usize = 0;
+    while i < ids.len() {
+        let end = from + wide16(counts[i]);
+        let v = check_list_as(
+            i + 1,
+            width,
+            &care[from..end],
+            &value[from..end],
+            &decision[from..end],
+        );
+        let Verdict::Fine = v else {
+            return v;
+        };
+        from = end;
+        i += 1;
+    }
+    Verdict::Fine
+}
+
+// All checks of the writer, with `room` bytes lent.
+fn write_verdict(
+    width: u32,
+    ids: &[u16],
+    counts: &[u16],
+    care: &[u64],
+    value: &[u64],
+    decision: &[u16],
+    room: usize,
+) -> Verdict
+    ensures { λ r. ⌜ verdictReply r ≡ writeCheck width (now (ids .entry)) (now (counts .entry))
+        (now (care .entry)) (now (value .entry)) (now (decision .entry)) room ⌝ }
+{
+    let s = shape_verdict(width, ids, counts, care, value, decision);
+    let Verdict::Fine = s else {
+        return s;
+    };
+    let n = names_verdict(ids, counts);
+    let Verdict::Fine = n else {
+        return n;
+    };
+    let l = lists_verdict(width, ids, counts, care, value, decision);
+    let Verdict::Fine = l else {
+        return l;
+    };
+    let size = 4 + 8 * ids.len() + 18 * care.len();
+    if size > 65536 {
+        return refused(10, 0, 0);
+    }
+    if size > room {
+        return refused(7, 0, 0);
+    }
+    Verdict::Fine
+}
+
+// Writes the image of lists: `counts` says how many of the rules belong to each id, in order. The answer is the image's
+// length, and only its bytes change. Checks 1, 2, 12, per list 13 and 3, the rules, 10, 7.
+pub fn write(
+    width: u32,
+    ids: &[u16],
+    counts: &[u16],
+    care: &[u64],
+    value: &[u64],
+    decision: &[u16],
+    out: &mut [u8],
+) -> Outcome
+    ensures { λ r. ⌜ Written width (now (ids .entry)) (now (counts .entry))
+        (now (care .entry)) (now (value .entry)) (now (decision .entry)) (now (out .entry)) r (now (out .exit)) ⌝ }
+{
+    let v = write_verdict(width, ids, counts, care, value, decision, out.len());
+    if let Verdict::Refused(x) = v {
+        return Outcome::Refused(x);
+    }
+    let lists = ids.len();
+    let from = 4 + 8 * lists;
+    put_head(out, width, lists);
+    put_contents(out, ids, counts);
+    put_rules(out, from, care, value, decision);
+    Outcome::Number(from + 18 * care.len())
+}
