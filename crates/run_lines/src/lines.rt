@@ -1,7 +1,8 @@
-// What the program writes, a line to a run.
+// The lines: each function writes what it answers, so that what a call promises of its answer holds of the lines that it wrote.
+ghost use mathlib.Core.Path.{_≡_};
+ghost use Rattle.compare.specs.declared.Ending.{Ending};
 use compare::Ending;
 use image::Outcome;
-use rules::Refusal;
 use rules::Wire;
 
 fn text(s: &[u8]) {
@@ -45,22 +46,19 @@ fn run_at(first: &[u64], last: &[u64], old: &[u16], new: &[u16], i: usize) {
     }
 }
 
-// The first `count` runs.
-fn runs(first: &[u64], last: &[u64], old: &[u16], new: &[u16], count: usize) {
+// The first `count` runs; how many lines that were.
+pub(crate) fn runs(first: &[u64], last: &[u64], old: &[u16], new: &[u16], count: usize) -> usize
+    ensures { λ r. ⌜ r ≡ count ⌝ }
+{
     let mut i = 0;
     while i < count {
         run_at(first, last, old, new, i);
         i += 1;
     }
+    i
 }
 
-fn refusal(x: Refusal) {
-    text(b"refused ");
-    number(x.number as u64);
-    text(b"\n");
-}
-
-fn width(image: &[u8]) {
+pub(crate) fn width(image: &[u8]) {
     let w = image::width(image);
     if let Outcome::Number(n) = w {
         text(b"width ");
@@ -69,43 +67,31 @@ fn width(image: &[u8]) {
     }
 }
 
-fn finished(count: usize) {
+fn finished(count: usize) -> Ending
+    ensures { λ r. ⌜ r ≡ Ending.Finished ⌝ }
+{
     text(b"runs ");
     number(count as u64);
     text(b"\n");
+    Ending::Finished
 }
 
-fn more(h: Wire) {
+fn more(next: Wire) -> Ending
+    ensures { λ r. ⌜ r ≡ Ending.More next ⌝ }
+{
     text(b"more ");
-    number(h.0);
+    number(next.0);
     text(b"\n");
+    Ending::More(next)
 }
 
-// Compares the first lists of two images, up to 1,000 runs.
-pub fn report(old: &[u8], new: &[u8]) {
-    let mut first = [0u64; 1000];
-    let mut last = [0u64; 1000];
-    let mut old_answer = [0u16; 1000];
-    let mut new_answer = [0u16; 1000];
-    let c = image::compare_first(
-        old,
-        new,
-        Wire(0),
-        &mut first,
-        &mut last,
-        &mut old_answer,
-        &mut new_answer,
-    );
-    let ending = c.ending;
-    if let Ending::Refused(x) = ending {
-        refusal(x);
-        return;
-    }
-    width(old);
-    runs(&first, &last, &old_answer, &new_answer, c.count);
+// The last line, and what it says.
+pub(crate) fn ended(ending: Ending, count: usize) -> Ending
+    ensures { λ r. ⌜ r ≡ ending ⌝ }
+{
     match ending {
-        Ending::Finished => finished(c.count),
+        Ending::Finished => finished(count),
         Ending::More(h) => more(h),
-        Ending::Refused(x) => refusal(x),
+        Ending::Refused(x) => Ending::Refused(x),
     }
 }

@@ -1,11 +1,13 @@
--- The loop counts up to the number of runs; each turn asks nothing of the slices.
-use Prim.Native.Nat.{_-_}
+use Prim.Native.Nat.{_-_, _≤_}
 use borrow.Author.Needs.{needs}
-use Rattle.vectors.proofs.lines.runs.Statement.{statement}
-use Rattle.vectors.proofs.lines.runs.Tie as tie
+use Rattle.run_lines.proofs.lines.runs.Statement.{statement}
+use Rattle.run_lines.proofs.lines.runs.Tie as tie
+use Rattle.run_lines.proofs.lines.runs.Reads as reads
+use Rattle.run_lines.proofs.lines.runs.Lts as lts
+use Rattle.run_lines.proofs.lines.run_at.Reads as run-at-reads
 
 abbrev Inv-loop : tie.InvT-loop
-Inv-loop first last old new count i₀ i = Unit
+Inv-loop first last old new count i₀ i = i ≤ count
 
 abbrev μ-loop : tie.MeasureT-loop
 μ-loop first last old new count i₀ i = count - i
@@ -30,4 +32,5 @@ returns c = search needs
 
 pub runs-spec : {M : Type 1} → statement M
 runs-spec =
-    tie.close (tie.spec Inv-loop μ-loop loop-holds run-at-requires add-i loop-less loop-again returns)
+    tie.close
+    (tie.spec Inv-loop μ-loop loop-holds run-at-requires add-i loop-less loop-again returns)
