@@ -8,7 +8,7 @@ use crate::squeezing;
 use words::Command;
 
 // The first word, the place of the name, and how many words there are with the name.
-pub fn run(word: &[u8], at: usize, words: usize) {
+pub(crate) fn run(word: &[u8], at: usize, words: usize) {
     let command = words::asked(word, words);
     match command {
         Command::Check => lists::check_file(at),

@@ -13,12 +13,12 @@ use rules::Wire;
 use text::Number;
 
 // compare OLD NEW
-pub fn compare_files(at: usize) {
+pub(crate) fn compare_files(at: usize) {
     on_images(at, false, 0, 0);
 }
 
 // compare OLD NEW ID
-pub fn compare_id(at: usize) {
+pub(crate) fn compare_id(at: usize) {
     let i = numbers::number_at(at, 4);
     if let Number::Value(id) = i {
         on_images(at, true, id, 0);
@@ -26,7 +26,7 @@ pub fn compare_id(at: usize) {
 }
 
 // compare OLD NEW ID START
-pub fn compare_from(at: usize) {
+pub(crate) fn compare_from(at: usize) {
     let i = numbers::number_at(at, 4);
     let Number::Value(id) = i else {
         return;

@@ -6,13 +6,13 @@ use crate::places;
 use crate::slices;
 
 // How many bytes a file had, or that it could not be read and a line has said so.
-pub enum Held {
+pub(crate) enum Held {
     Bytes(usize),
     Nothing,
 }
 
 // Room for the largest image and one byte more, so that a larger file is seen to be too large and is not cut.
-pub fn space() -> [u8; 65537]
+pub(crate) fn space() -> [u8; 65537]
     ensures { λ r. ⌜ 65537 ≡ length r ⌝ }
 {
     [0; 65537]
@@ -42,7 +42,7 @@ fn load(path: &[u8], buffer: &mut [u8]) -> Held {
 }
 
 // Reads the file that word i after place `at` names into the start of the buffer.
-pub fn load_word(at: usize, i: usize, buffer: &mut [u8]) -> Held {
+pub(crate) fn load_word(at: usize, i: usize, buffer: &mut [u8]) -> Held {
     let mut path = io::buffer();
     let n = os::arg(places::place(at, i), &mut path);
     load(&path[..n], buffer)
@@ -96,7 +96,7 @@ fn add_part(name: &mut [u8], n: usize) -> usize {
 
 // Writes the bytes as the file that word i after place `at` names, whole or not at all; whether that was done. A name that is empty or too
 // long to have another beside it is no name to write to.
-pub fn save_word(at: usize, i: usize, bytes: &[u8]) -> bool {
+pub(crate) fn save_word(at: usize, i: usize, bytes: &[u8]) -> bool {
     let mut out = io::buffer();
     let n = os::arg(places::place(at, i), &mut out);
     let mut part_space = io::buffer();

@@ -1,16 +1,16 @@
 // The lines that the tool writes.
 use rules::Refusal;
 
-pub fn say(s: &[u8]) {
+pub(crate) fn say(s: &[u8]) {
     io::write_all(1, s);
 }
 
-pub fn number(n: u64) {
+pub(crate) fn number(n: u64) {
     io::print_decimal(1, n);
 }
 
 // A refusal, with its place where it has one: a list, and a rule or 0.
-pub fn refusal(x: Refusal) {
+pub(crate) fn refusal(x: Refusal) {
     say(b"refused ");
     number(x.number as u64);
     if x.list > 0 {
@@ -23,7 +23,7 @@ pub fn refusal(x: Refusal) {
 }
 
 // Refusal 15: no list has the id that was asked for, and of two images in which.
-pub fn no_list(id: u64, place: &[u8]) {
+pub(crate) fn no_list(id: u64, place: &[u8]) {
     say(b"refused 15: no list ");
     number(id);
     say(place);
@@ -31,7 +31,7 @@ pub fn no_list(id: u64, place: &[u8]) {
 }
 
 // A refusal of a question about the list with that id.
-pub fn refusal_of(x: Refusal, id: u64) {
+pub(crate) fn refusal_of(x: Refusal, id: u64) {
     if x.number == 15 {
         no_list(id, b"");
         return;
@@ -40,20 +40,20 @@ pub fn refusal_of(x: Refusal, id: u64) {
 }
 
 // A name and a number to a line.
-pub fn named(name: &[u8], n: u64) {
+pub(crate) fn named(name: &[u8], n: u64) {
     say(name);
     number(n);
     say(b"\n");
 }
 
 // What went wrong, and with which word of the command line.
-pub fn trouble(what: &[u8], word: &[u8]) {
+pub(crate) fn trouble(what: &[u8], word: &[u8]) {
     say(what);
     say(word);
     say(b"\n");
 }
 
-pub fn usage() {
+pub(crate) fn usage() {
     say(b"usage:\n");
     say(b"  ./myrhjord check FILE\n");
     say(b"  ./myrhjord show FILE\n");

@@ -10,7 +10,7 @@ use rules::Rule;
 use rules::Verdict;
 
 // The width of an image that is accepted; 0 for any other.
-pub fn width_of(image: &[u8]) -> u32 {
+pub(crate) fn width_of(image: &[u8]) -> u32 {
     let o = image::width(image);
     if let Outcome::Number(w) = o {
         if w <= 64 {
@@ -21,7 +21,7 @@ pub fn width_of(image: &[u8]) -> u32 {
 }
 
 // Whether an image that was accepted has a list with that id.
-pub fn has(image: &[u8], id: u64) -> bool {
+pub(crate) fn has(image: &[u8], id: u64) -> bool {
     if id <= 65535 {
         let v = image::body_refusal(image, id as u16);
         if let Verdict::Fine = v {
@@ -32,7 +32,7 @@ pub fn has(image: &[u8], id: u64) -> bool {
 }
 
 // Reads a list out. An id above 65,535 is that of no list: the image's own refusals, then 15.
-pub fn read_list(
+pub(crate) fn read_list(
     image: &[u8],
     id: u64,
     care: &mut [u64],
@@ -54,7 +54,7 @@ pub fn read_list(
 }
 
 // check FILE
-pub fn check_file(at: usize) {
+pub(crate) fn check_file(at: usize) {
     let mut space = files::space();
     let all: &mut [u8] = &mut space;
     let held = files::load_word(at, 2, all);
@@ -91,7 +91,7 @@ fn entry_line(image: &[u8], k: usize) {
 }
 
 // show FILE
-pub fn show_file(at: usize) {
+pub(crate) fn show_file(at: usize) {
     let mut space = files::space();
     let all: &mut [u8] = &mut space;
     let held = files::load_word(at, 2, all);

@@ -4,7 +4,7 @@ use crate::places;
 use text::Number;
 
 // The number that word i after place `at` stands for; a line says so where it is none.
-pub fn number_at(at: usize, i: usize) -> Number {
+pub(crate) fn number_at(at: usize, i: usize) -> Number {
     let mut space = io::buffer();
     let n = os::arg(places::place(at, i), &mut space);
     let found = text::read_number(&space[..n]);

@@ -15,7 +15,7 @@ use text::Number;
 use weaving::Counted;
 
 // lookup FILE ID HEADER
-pub fn lookup_file(at: usize) {
+pub(crate) fn lookup_file(at: usize) {
     let i = numbers::number_at(at, 3);
     let Number::Value(id) = i else {
         return;
@@ -61,7 +61,7 @@ fn answer(l: Looked) {
 }
 
 // runs FILE ID
-pub fn runs_file(at: usize) {
+pub(crate) fn runs_file(at: usize) {
     let i = numbers::number_at(at, 3);
     let Number::Value(id) = i else {
         return;

@@ -1,19 +1,19 @@
 // Parts and places of slices. Every function is total: a place past the end reads as 0, nothing is put there, and a part
 // that would pass the end is empty.
-pub fn bytes(s: &[u8], n: usize) -> &[u8] {
+pub(crate) fn bytes(s: &[u8], n: usize) -> &[u8] {
     if n <= s.len() { &s[..n] } else { &s[..0] }
 }
 
-pub fn words(s: &[u64], n: usize) -> &[u64] {
+pub(crate) fn words(s: &[u64], n: usize) -> &[u64] {
     if n <= s.len() { &s[..n] } else { &s[..0] }
 }
 
-pub fn halves(s: &[u16], n: usize) -> &[u16] {
+pub(crate) fn halves(s: &[u16], n: usize) -> &[u16] {
     if n <= s.len() { &s[..n] } else { &s[..0] }
 }
 
 // What is left from a place on.
-pub fn later_words(s: &mut [u64], from: usize) -> &mut [u64] {
+pub(crate) fn later_words(s: &mut [u64], from: usize) -> &mut [u64] {
     if from <= s.len() {
         &mut s[from..]
     } else {
@@ -21,7 +21,7 @@ pub fn later_words(s: &mut [u64], from: usize) -> &mut [u64] {
     }
 }
 
-pub fn later_halves(s: &mut [u16], from: usize) -> &mut [u16] {
+pub(crate) fn later_halves(s: &mut [u16], from: usize) -> &mut [u16] {
     if from <= s.len() {
         &mut s[from..]
     } else {
@@ -37,30 +37,30 @@ fn wide_half(x: u16) -> u64 {
     x as u64
 }
 
-pub fn byte_at(s: &[u8], i: usize) -> u64 {
+pub(crate) fn byte_at(s: &[u8], i: usize) -> u64 {
     if i < s.len() { wide_byte(s[i]) } else { 0 }
 }
 
-pub fn word_at(s: &[u64], i: usize) -> u64 {
+pub(crate) fn word_at(s: &[u64], i: usize) -> u64 {
     if i < s.len() { s[i] } else { 0 }
 }
 
-pub fn half_at(s: &[u16], i: usize) -> u64 {
+pub(crate) fn half_at(s: &[u16], i: usize) -> u64 {
     if i < s.len() { wide_half(s[i]) } else { 0 }
 }
 
 // The number at a place as it stands.
-pub fn short_at(s: &[u16], i: usize) -> u16 {
+pub(crate) fn short_at(s: &[u16], i: usize) -> u16 {
     if i < s.len() { s[i] } else { 0 }
 }
 
-pub fn put_byte(s: &mut [u8], i: usize, x: u8) {
+pub(crate) fn put_byte(s: &mut [u8], i: usize, x: u8) {
     if i < s.len() {
         s[i] = x;
     }
 }
 
-pub fn put_half(s: &mut [u16], i: usize, x: u16) {
+pub(crate) fn put_half(s: &mut [u16], i: usize, x: u16) {
     if i < s.len() {
         s[i] = x;
     }

@@ -10,7 +10,7 @@ use weaving::Tally;
 use weaving::Woven;
 
 // weave FILE OUT
-pub fn weave_file(at: usize) {
+pub(crate) fn weave_file(at: usize) {
     let mut space = files::space();
     let all: &mut [u8] = &mut space;
     let held = files::load_word(at, 2, all);

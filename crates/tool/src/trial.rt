@@ -76,7 +76,7 @@ fn visit(i: usize) {
 }
 
 // The command lines among the arguments, one after the other.
-pub fn all() {
+pub(crate) fn all() {
     let count = os::arg_count();
     let mut left = count;
     while left > 0 {
