@@ -1,12 +1,17 @@
 // The bench program: compares the first list of old.img with that of new.img, in the folder that it is run in, and writes
 // the runs of headers on which their answers differ. A file that is missing counts as one of no bytes.
-mod files;
-mod lines;
+use compare::Ending;
 
+// There is room for a byte more than the largest image, so that a larger file is refused and not cut.
 fn main() {
-    let mut old = files::space();
-    let mut new = files::space();
-    let m = files::load(b"old.img", &mut old);
-    let n = files::load(b"new.img", &mut new);
-    lines::report(&old[..m], &new[..n]);
+    let mut old = [0u8; 65537];
+    let mut new = [0u8; 65537];
+    let held = run_lines::show_files(b"old.img", b"new.img", &mut old, &mut new);
+    let compared = held.compared;
+    let ending = compared.ending;
+    if let Ending::Refused(x) = ending {
+        io::write_all(1, b"refused ");
+        io::print_decimal(1, x.number as u64);
+        io::write_all(1, b"\n");
+    }
 }

@@ -1,6 +1,23 @@
-// The tool for people who hold an image file in their hands.
+// The tool for people who hold an image file in their hands: a thin command line over the libraries. What it writes goes to
+// standard output, in plain words.
+mod commands;
+mod comparing;
+mod files;
+mod lines;
+mod lists;
+mod numbers;
+mod places;
+mod questions;
+mod slices;
+mod squeezing;
+mod trial;
+
 fn main() {
     let mut space = io::buffer();
     let n = os::arg(1, &mut space);
+    if check::same(&space[..n], b"trial") {
+        trial::all();
+        return;
+    }
     commands::run(&space[..n], 0, os::arg_count());
 }

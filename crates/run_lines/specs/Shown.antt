@@ -1,0 +1,41 @@
+-- What a call that writes the lines of a comparison answers (01, the bench program: at most 1,000 runs, then the ending).
+use mathlib.Core.Path.{_≡_}
+use Prim.Native.Nat.{ℕ, _≤_}
+use mathlib.Core.List.{List, []}
+use lib.ListN.{length, take}
+use Rattle.rules.specs.Replies.{Reply, Gives, _then_, unlessRefused}
+use Rattle.compare.specs.declared.Compared.{Compared}
+use Rattle.compare.specs.Runs.{Run, differences, portion, ending}
+use Rattle.compare.specs.Calls.{endingReply}
+use Rattle.image.specs.Images.{widthIn}
+use Rattle.image.specs.Places.{listWith}
+use Rattle.image_compare.specs.Comparing.{firstRules, compareFirstCheck, compareListsCheck}
+use Rattle.run_lines.specs.declared.Held.{Held}
+
+-- So many lines of runs at most.
+abbrev pub room : ℕ
+room = 1000
+
+-- The ending and the number of the lines of runs that were written, by the verdict of the checks and the runs that there are.
+pub record Shown (check : Reply) (rs : List Run) (r : Compared) : Type 0 where
+  pub reply : endingReply (r .ending) ≡ (check then Gives (ending room rs))
+  pub count : r .count ≡ length (unlessRefused check (portion room rs) [])
+
+-- The first lists of two images, from a header on.
+abbrev pub FirstShown : (old new : List ℕ) → (start : ℕ) → Compared → Type 0
+FirstShown old new start r =
+    Shown (compareFirstCheck old new start room room room room)
+    (differences (widthIn old) (firstRules old) (firstRules new) start) r
+
+-- Two lists by their ids.
+abbrev pub ListsShown : (old : List ℕ) → (oldId : ℕ) → (new : List ℕ) → (newId : ℕ) → (start : ℕ) → Compared → Type 0
+ListsShown old i new j start r =
+    Shown (compareListsCheck old i new j start room room room room)
+    (differences (widthIn old) (listWith old i) (listWith new j) start) r
+
+-- The first lists of two files, of which no contract can say what they hold: what was read stands at the starts of the two slices
+-- afterwards, the counts say how much that is, and the comparison is that of these bytes.
+pub record FilesShown (old′ new′ : List ℕ) (r : Held) : Type 0 where
+  pub olds : r .old ≤ length old′
+  pub news : r .new ≤ length new′
+  pub shown : FirstShown (take (r .old) old′) (take (r .new) new′) 0 (r .compared)

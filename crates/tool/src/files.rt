@@ -1,0 +1,111 @@
+// Files: read whole into memory, and written whole or not at all.
+ghost use mathlib.Core.Path.{_≡_};
+ghost use lib.ListN.{length};
+use crate::lines;
+use crate::places;
+use crate::slices;
+
+// How many bytes a file had, or that it could not be read and a line has said so.
+pub(crate) enum Held {
+    Bytes(usize),
+    Nothing,
+}
+
+// Room for the largest image and one byte more, so that a larger file is seen to be too large and is not cut.
+pub(crate) fn space() -> [u8; 65537]
+    ensures { λ r. ⌜ 65537 ≡ length r ⌝ }
+{
+    [0; 65537]
+}
+
+// Whether one more read of an open file fails. A directory can be opened, and only this tells it from an empty file.
+fn fails(file: i32) -> bool {
+    let mut one = [0u8; 1];
+    let got = libc::read(file, &mut one);
+    got < 0
+}
+
+fn load(path: &[u8], buffer: &mut [u8]) -> Held {
+    let file = os::open_read(path);
+    if file < 0 {
+        lines::trouble(b"cannot open ", path);
+        return Held::Nothing;
+    }
+    let n = io::read_full(file, buffer);
+    let failed = fails(file);
+    libc::close(file);
+    if failed {
+        lines::trouble(b"cannot read ", path);
+        return Held::Nothing;
+    }
+    Held::Bytes(n)
+}
+
+// Reads the file that word i after place `at` names into the start of the buffer.
+pub(crate) fn load_word(at: usize, i: usize, buffer: &mut [u8]) -> Held {
+    let mut path = io::buffer();
+    let n = os::arg(places::place(at, i), &mut path);
+    load(&path[..n], buffer)
+}
+
+// Writes the bytes to an open file, waits until they have reached its device, and closes it; whether all of that was done.
+fn filled(file: i32, bytes: &[u8]) -> bool {
+    let all = io::write_all(file, bytes);
+    let reached = libc::fsync(file);
+    let closed = libc::close(file);
+    if reached < 0 {
+        return false;
+    }
+    if closed < 0 {
+        return false;
+    }
+    all
+}
+
+// Writes the bytes to the new file `part` and renames it to `out` once it is complete. Where that cannot be done, `part` is
+// removed, a line says so, and `out` is as it was.
+fn save(part: &[u8], out: &[u8], bytes: &[u8]) -> bool {
+    let file = os::create(part);
+    if file < 0 {
+        lines::trouble(b"cannot write ", part);
+        return false;
+    }
+    if filled(file, bytes) {
+        let renamed = os::rename(part, out);
+        if renamed == 0 {
+            return true;
+        }
+    }
+    os::unlink(part);
+    lines::trouble(b"cannot write ", out);
+    false
+}
+
+// Puts ".part" after the first n bytes of a name, and answers its length.
+fn add_part(name: &mut [u8], n: usize) -> usize {
+    if n > 4000 {
+        return 0;
+    }
+    slices::put_byte(name, n, 46);
+    slices::put_byte(name, n + 1, 112);
+    slices::put_byte(name, n + 2, 97);
+    slices::put_byte(name, n + 3, 114);
+    slices::put_byte(name, n + 4, 116);
+    n + 5
+}
+
+// Writes the bytes as the file that word i after place `at` names, whole or not at all; whether that was done. A name that is empty or too
+// long to have another beside it is no name to write to.
+pub(crate) fn save_word(at: usize, i: usize, bytes: &[u8]) -> bool {
+    let mut out = io::buffer();
+    let n = os::arg(places::place(at, i), &mut out);
+    let mut part_space = io::buffer();
+    let part: &mut [u8] = &mut part_space;
+    os::arg(places::place(at, i), part);
+    let m = add_part(part, n);
+    if n == 0 || m == 0 {
+        lines::trouble(b"cannot write ", &out[..n]);
+        return false;
+    }
+    save(slices::bytes(part, m), &out[..n], bytes)
+}

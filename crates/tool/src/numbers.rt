@@ -1,0 +1,15 @@
+// Numbers on the command line.
+use crate::lines;
+use crate::places;
+use text::Number;
+
+// The number that word i after place `at` stands for; a line says so where it is none.
+pub(crate) fn number_at(at: usize, i: usize) -> Number {
+    let mut space = io::buffer();
+    let n = os::arg(places::place(at, i), &mut space);
+    let found = text::read_number(&space[..n]);
+    if let Number::Nothing = found {
+        lines::trouble(b"not a number: ", &space[..n]);
+    }
+    found
+}

@@ -1,0 +1,28 @@
+-- Laws of words that are compared byte by byte.
+use mathlib.Core.Path.{_≡_, refl, sym, ap, _∙_}
+use mathlib.Core.List.{List, [], _∷_}
+use mathlib.Core.Bool.{Bool, true, false}
+use Prim.Native.Nat.{ℕ}
+use lib.Dec.{eqb}
+use Rattle.rules.proofs.Tests.{eqb-yes, yes-eqb, and-true, true-and, true-false, same-test}
+use Rattle.words.specs.Words.{sameBytes}
+
+same-itself : (xs : List ℕ) → sameBytes xs xs ≡ true
+unfolding sameBytes
+same-itself [] = refl
+same-itself (x ∷ xs) = true-and (yes-eqb x x refl) (same-itself xs)
+
+same-equal : (xs ys : List ℕ) → sameBytes xs ys ≡ true → xs ≡ ys
+unfolding sameBytes
+same-equal [] [] e = refl
+same-equal [] (y ∷ ys) e = absurd (true-false e refl)
+same-equal (x ∷ xs) [] e = absurd (true-false e refl)
+same-equal (x ∷ xs) (y ∷ ys) e =
+    let both : (eqb x y ≡ true) × (sameBytes xs ys ≡ true) = and-true _ _ e in
+    let p : x ≡ y = eqb-yes x y (both .0) in
+    let q : xs ≡ ys = same-equal xs ys (both .1) in cc
+
+-- A test that is true exactly of equal words.
+pub same-decided : (t : Bool) (xs ys : List ℕ) → (t ≡ true → xs ≡ ys) → (xs ≡ ys → t ≡ true) → t ≡ sameBytes xs ys
+same-decided t xs ys f g =
+    same-test t (sameBytes xs ys) (λ e. rw (f e) (same-itself ys)) (λ e. g (same-equal xs ys e))
