@@ -62,8 +62,13 @@ fn say_unread(path: &[u8], line: u64, s: &[u8], end: usize) {
         say_word(s, 0);
         return;
     }
-    say(b": cannot read on from: ");
-    say_word(s, end % 1099511627776);
+    let at = word_start(s, end % 1099511627776);
+    if at < s.len() {
+        say(b": cannot read on from: ");
+        say_word(s, at);
+        return;
+    }
+    say(b": the case ends too soon\n");
 }
 
 fn say_word(s: &[u8], from: usize) {

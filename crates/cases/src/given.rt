@@ -40,14 +40,17 @@ fn times(s: &[u8], from: usize) -> Taken {
     Taken { value: 1, at }
 }
 
-// Where so many more places end, or a bad position where the slice has not so many.
-fn room(count: usize, more: u64, length: usize, at: usize) -> usize {
+// The position `end` after an item, where the slice has so many more places; else a bad one at the item's start.
+fn room(count: usize, more: u64, length: usize, start: usize, end: usize) -> usize {
     if count <= length {
         if more <= (length - count) as u64 {
-            return at;
+            return end;
         }
     }
-    bad(at)
+    if is_bad(end) {
+        return end;
+    }
+    bad(start)
 }
 
 // What follows a number of a slice: itself, the next number, or what is left of it above its lowest byte.
@@ -159,7 +162,7 @@ fn put_numbers(out: &mut [u64], from: usize, value: u64, times: u64, way: Way) -
 // Reads the next item into the places from `count` on.
 fn put_item(s: &[u8], at: usize, most: u64, out: &mut [u64], count: usize) -> Filled {
     let x = next_item(s, at, most);
-    let end = room(count, x.times, out.len(), x.at);
+    let end = room(count, x.times, out.len(), at, x.at);
     if is_bad(end) {
         return Filled { count, at: end };
     }
@@ -203,7 +206,7 @@ pub fn halves(s: &[u8], from: usize, out: &mut [u16]) -> Filled {
     let mut space = [0u64; 4112];
     let wide: &mut [u64] = &mut space;
     let f = numbers(s, from, 65535, wide);
-    let end = room(0, f.count as u64, out.len(), f.at);
+    let end = room(0, f.count as u64, out.len(), from, f.at);
     slices::to_halves(slices::words(wide, f.count), out);
     Filled {
         count: f.count,
@@ -215,7 +218,7 @@ pub fn bytes(s: &[u8], from: usize, out: &mut [u8]) -> Filled {
     let mut space = [0u64; 65600];
     let wide: &mut [u64] = &mut space;
     let f = numbers(s, from, 255, wide);
-    let end = room(0, f.count as u64, out.len(), f.at);
+    let end = room(0, f.count as u64, out.len(), from, f.at);
     slices::to_bytes(slices::words(wide, f.count), out);
     Filled {
         count: f.count,
@@ -224,9 +227,9 @@ pub fn bytes(s: &[u8], from: usize, out: &mut [u8]) -> Filled {
 }
 
 // A rule, and the position after it.
-struct Ruled {
-    rule: Rule,
-    at: usize,
+pub struct Ruled {
+    pub rule: Rule,
+    pub at: usize,
 }
 
 fn rule_of(care: u64, value: u64, decision: u64, at: usize) -> Ruled {
@@ -313,7 +316,7 @@ fn put_rule(
 ) -> Filled {
     let t = times(s, at);
     let r = rule(s, t.at);
-    let end = room(count, t.value, care.len(), r.at);
+    let end = room(count, t.value, care.len(), at, r.at);
     if is_bad(end) {
         return Filled { count, at: end };
     }
@@ -389,23 +392,32 @@ pub fn list(
     }
 }
 
-// An argument that is so many rules in brackets.
-pub fn some_rules(
-    s: &[u8],
-    from: usize,
-    name: usize,
-    count: usize,
-    care: &mut [u64],
-    value: &mut [u64],
-    decision: &mut [u16],
-) -> usize {
-    let l = list(s, after(s, from, name), care, value, decision);
-    if l.cares == count {
-        if l.values == count {
-            if l.decisions == count {
-                return l.at;
-            }
-        }
+// An argument that is one rule in brackets.
+pub fn one_rule(s: &[u8], from: usize, name: usize) -> Ruled {
+    let r = rule(s, bracket(s, after(s, from, name), 91));
+    let found = r.rule;
+    Ruled {
+        rule: found,
+        at: bracket(s, r.at, 93),
     }
-    bad(l.at)
+}
+
+// Two rules, and the position after them.
+pub struct Two {
+    pub first: Rule,
+    pub second: Rule,
+    pub at: usize,
+}
+
+// An argument that is two rules in brackets.
+pub fn two_rules(s: &[u8], from: usize, name: usize) -> Two {
+    let a = rule(s, bracket(s, after(s, from, name), 91));
+    let first = a.rule;
+    let b = rule(s, a.at);
+    let second = b.rule;
+    Two {
+        first,
+        second,
+        at: bracket(s, b.at, 93),
+    }
 }

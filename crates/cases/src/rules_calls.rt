@@ -137,60 +137,31 @@ pub fn on_rules(call: usize, s: &[u8], from: usize, w: &[u8], to: usize) -> usiz
 }
 
 fn check_rule(s: &[u8], from: usize, w: &[u8], to: usize) -> usize {
-    let mut care = [0u64; 1];
-    let mut value = [0u64; 1];
-    let mut decision = [0u16; 1];
     let width = named(s, from, names::WIDTH, 4294967295);
     let list = named(s, width.at, names::LIST, 18446744073709551615);
     let number = named(s, list.at, names::NUMBER, 18446744073709551615);
-    let end = ended(
-        s,
-        given::some_rules(
-            s,
-            number.at,
-            names::RULE,
-            1,
-            &mut care,
-            &mut value,
-            &mut decision,
-        ),
-    );
+    let r = given::one_rule(s, number.at, names::RULE);
+    let end = ended(s, r.at);
     if is_bad(end) {
         return end;
     }
-    let rule = rules::rule_at(&care, &value, &decision, 0);
     let v = rules::check_rule(
         (width.value % 4294967296) as u32,
         list.value as usize,
         number.value as usize,
-        rule,
+        r.rule,
     );
     show::verdict(w, to, v)
 }
 
 // `rules`: two of them.
 fn pair(call: usize, width: u32, s: &[u8], from: usize, w: &[u8], to: usize) -> usize {
-    let mut care = [0u64; 2];
-    let mut value = [0u64; 2];
-    let mut decision = [0u16; 2];
-    let end = ended(
-        s,
-        given::some_rules(
-            s,
-            from,
-            names::RULES,
-            2,
-            &mut care,
-            &mut value,
-            &mut decision,
-        ),
-    );
+    let r = given::two_rules(s, from, names::RULES);
+    let end = ended(s, r.at);
     if is_bad(end) {
         return end;
     }
-    let a = rules::rule_at(&care, &value, &decision, 0);
-    let b = rules::rule_at(&care, &value, &decision, 1);
-    asked(call, width, a, b, w, to)
+    asked(call, width, r.first, r.second, w, to)
 }
 
 fn asked(call: usize, width: u32, a: Rule, b: Rule, w: &[u8], to: usize) -> usize {
@@ -248,29 +219,15 @@ fn put_rule(s: &[u8], from: usize, w: &[u8], to: usize) -> usize {
         all_decision,
     );
     let place = named(s, l.at, names::PLACE, 18446744073709551615);
-    let mut one_care = [0u64; 1];
-    let mut one_value = [0u64; 1];
-    let mut one_decision = [0u16; 1];
-    let end = ended(
-        s,
-        given::some_rules(
-            s,
-            place.at,
-            names::RULE,
-            1,
-            &mut one_care,
-            &mut one_value,
-            &mut one_decision,
-        ),
-    );
+    let r = given::one_rule(s, place.at, names::RULE);
+    let end = ended(s, r.at);
     if is_bad(end) {
         return end;
     }
-    let rule = rules::rule_at(&one_care, &one_value, &one_decision, 0);
     let care = slices::words_mut(all_care, l.cares);
     let value = slices::words_mut(all_value, l.values);
     let decision = slices::halves_mut(all_decision, l.decisions);
-    rules::put_rule(care, value, decision, place.value as usize, rule);
+    rules::put_rule(care, value, decision, place.value as usize, r.rule);
     show::list(
         w,
         show::glyph(w, show::word(w, to, show::LIST), 32),

@@ -195,24 +195,10 @@ fn moved(call: usize, swap: Swap, s: &[u8], from: usize, w: &[u8], to: usize) ->
 }
 
 fn apply_rule(swap: Swap, s: &[u8], from: usize, w: &[u8], to: usize) -> usize {
-    let mut care = [0u64; 1];
-    let mut value = [0u64; 1];
-    let mut decision = [0u16; 1];
-    let end = ended(
-        s,
-        given::some_rules(
-            s,
-            from,
-            names::RULE,
-            1,
-            &mut care,
-            &mut value,
-            &mut decision,
-        ),
-    );
+    let r = given::one_rule(s, from, names::RULE);
+    let end = ended(s, r.at);
     if is_bad(end) {
         return end;
     }
-    let rule = rules::rule_at(&care, &value, &decision, 0);
-    show_rule(w, to, swap.width, swap.apply_rule(rule))
+    show_rule(w, to, swap.width, swap.apply_rule(r.rule))
 }
