@@ -91,8 +91,8 @@ fn with_list(
     w: &[u8],
     to: usize,
 ) -> usize {
-    if call == names::PREFIX_SWAP || call == names::LOOKUP_SWAPPED {
-        return swaps_calls::on_list(call, s, at, width, care, value, decision, w, to);
+    if call == names::PREFIX_SWAP {
+        return swaps_calls::prefix_swap(s, at, width, care, value, decision, w, to);
     }
     if call == names::RUNS || call == names::WEAVE {
         return weaving_calls::on_list(call, s, at, width, care, value, decision, w, to);

@@ -1,4 +1,4 @@
-// The calls on lists of rules and on rules: the crate `rules`.
+// The calls on lists of rules and on rules: the crate `rules`, and the lookup of a swapped header beside the other two.
 use crate::given;
 use crate::names;
 use crate::show;
@@ -7,6 +7,7 @@ use crate::source::after;
 use crate::source::ended;
 use crate::source::is_bad;
 use crate::source::named;
+use crate::swaps_calls;
 use rules::Looked;
 use rules::Rule;
 use rules::Wire;
@@ -62,7 +63,7 @@ fn lookups(
         return end;
     }
     look_up(
-        call == names::LOOKUP_NUMBER,
+        call,
         width,
         care,
         value,
@@ -74,21 +75,24 @@ fn lookups(
 }
 
 fn looked(
-    by_number: bool,
+    call: usize,
     width: u32,
     care: &[u64],
     value: &[u64],
     decision: &[u16],
     header: u64,
 ) -> Looked {
-    if by_number {
+    if call == names::LOOKUP_SWAPPED {
+        return swaps_calls::looked(width, care, value, decision, header);
+    }
+    if call == names::LOOKUP_NUMBER {
         return rules::lookup_number(width, care, value, decision, header);
     }
     rules::lookup(width, care, value, decision, Wire(header))
 }
 
 fn look_up(
-    by_number: bool,
+    call: usize,
     width: u32,
     care: &[u64],
     value: &[u64],
@@ -102,7 +106,7 @@ fn look_up(
     while i < headers.len() {
         at = show::between(w, at, i, true);
         let l = looked(
-            by_number,
+            call,
             width,
             care,
             value,

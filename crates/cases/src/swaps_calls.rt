@@ -2,11 +2,11 @@
 use crate::given;
 use crate::names;
 use crate::show;
-use crate::slices;
 use crate::source::after;
 use crate::source::ended;
 use crate::source::is_bad;
 use crate::source::named;
+use rules::Looked;
 use rules::Wire;
 use swaps::MovedRule;
 use swaps::Swap;
@@ -81,9 +81,8 @@ fn show_swap(w: &[u8], to: usize, a: SwapAnswer) -> usize {
     show::swap(w, show::glyph(w, verdict, 32), a.swap)
 }
 
-// The calls that have a width and a list; `at` is the position after these.
-pub fn on_list(
-    call: usize,
+// The call `prefix_swap`; `at` is the position after its width and its list.
+pub fn prefix_swap(
     s: &[u8],
     at: usize,
     width: u32,
@@ -93,67 +92,18 @@ pub fn on_list(
     w: &[u8],
     to: usize,
 ) -> usize {
-    if call == names::PREFIX_SWAP {
-        let end = ended(s, at);
-        if is_bad(end) {
-            return end;
-        }
-        return show_swap(w, to, swaps::prefix_swap(width, care, value, decision));
-    }
-    let mut space = [0u64; 4112];
-    let headers: &mut [u64] = &mut space;
-    let f = given::words(s, after(s, at, names::HEADERS), headers);
-    let end = ended(s, f.at);
+    let end = ended(s, at);
     if is_bad(end) {
         return end;
     }
-    look_up(
-        width,
-        care,
-        value,
-        decision,
-        slices::words(headers, f.count),
-        w,
-        to,
-    )
+    show_swap(w, to, swaps::prefix_swap(width, care, value, decision))
 }
 
-fn look_up(
-    width: u32,
-    care: &[u64],
-    value: &[u64],
-    decision: &[u16],
-    headers: &[u64],
-    w: &[u8],
-    to: usize,
-) -> usize {
-    let mut at = to;
-    let mut i = 0;
-    while i < headers.len() {
-        at = show::between(w, at, i, true);
-        let h = still().apply(Wire(slices::word_at(headers, i)));
-        at = look_one_up(width, care, value, decision, h, w, at);
-        i += 1;
-    }
-    at
-}
-
-fn look_one_up(
-    width: u32,
-    care: &[u64],
-    value: &[u64],
-    decision: &[u16],
-    header: ToSwapped,
-    w: &[u8],
-    at: usize,
-) -> usize {
-    match header {
-        ToSwapped::Header(x) => show::looked(
-            w,
-            at,
-            swaps::lookup_swapped(width, care, value, decision, x),
-        ),
-        ToSwapped::Refused(x) => show::refusal(w, at, x),
+// What the list answers to the swapped header with this number.
+pub fn looked(width: u32, care: &[u64], value: &[u64], decision: &[u16], header: u64) -> Looked {
+    match still().apply(Wire(header)) {
+        ToSwapped::Header(x) => swaps::lookup_swapped(width, care, value, decision, x),
+        ToSwapped::Refused(x) => Looked::Refused(x),
     }
 }
 

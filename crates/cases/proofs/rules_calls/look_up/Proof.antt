@@ -11,10 +11,10 @@ use Rattle.cases.proofs.show.looked.Reads as show-looked-reads
 use Rattle.cases.proofs.slices.word_at.Reads as word-at-reads
 
 abbrev Inv-loop : tie.InvT-loop
-Inv-loop by-number width care value decision headers w to at₀ i₀ at i = Unit {0}
+Inv-loop call width care value decision headers w to at₀ i₀ at i = Unit {0}
 
 abbrev μ-loop : tie.MeasureT-loop
-μ-loop by-number width care value decision headers w to at₀ i₀ at i = length headers - i
+μ-loop call width care value decision headers w to at₀ i₀ at i = length headers - i
 
 loop-holds : tie.Need-loop-holds Inv-loop μ-loop
 loop-holds c = search needs
