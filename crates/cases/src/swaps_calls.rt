@@ -98,7 +98,7 @@ pub fn on_list(
         if is_bad(end) {
             return end;
         }
-        return show_swap(w, to, swaps::prefix_swap(width, care, value, decision));
+        return show_swap(w, to, prefixes::prefix_swap(width, care, value, decision));
     }
     let mut space = [0u64; 4112];
     let headers: &mut [u64] = &mut space;
