@@ -1,4 +1,4 @@
-// The calls on bit-swaps: the crate `swaps`.
+// The calls on bit-swaps: the crates `swaps` and `prefixes`.
 use crate::given;
 use crate::names;
 use crate::show;
@@ -96,7 +96,7 @@ pub fn prefix_swap(
     if is_bad(end) {
         return end;
     }
-    show_swap(w, to, swaps::prefix_swap(width, care, value, decision))
+    show_swap(w, to, prefixes::prefix_swap(width, care, value, decision))
 }
 
 // What the list answers to the swapped header with this number.

@@ -1,14 +1,9 @@
--- The laws of bit-swaps.
+-- The laws of bit-swaps, for this crate's proofs and for the crates above it.
 pub mod WordLaws
 pub mod SwapLaws
 pub mod MoveLaws
 pub mod SwapSteps
 pub mod SwapCallLaws
-pub mod SortLaws
-pub mod StarLaws
-pub mod CrossLaws
-pub mod PrefixSteps
 pub mod SwapTheorems
 pub mod SwapCallTheorems
 pub mod SwapUnique
-pub mod PrefixTheorems

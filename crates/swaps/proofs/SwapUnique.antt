@@ -13,10 +13,8 @@ use Rattle.swaps.specs.declared.swaps.ToSwapped.{ToSwapped}
 use Rattle.swaps.specs.declared.swaps.ToWire.{ToWire}
 use Rattle.swaps.specs.declared.swaps.SwapAnswer.{SwapAnswer}
 use Rattle.rules.specs.Replies.{Reply, lookedReply}
-use Rattle.rules.specs.Slices.{rulesOf}
 use Rattle.rules.specs.Calls.{lookedUp}
 use Rattle.swaps.specs.SwapCalls.{movedRuleReply, toSwappedReply, toWireReply, SwapGiven, checkSwap, checkSwaps, appliedRule, appliedHeader, undoneHeader, inverted, joined}
-use Rattle.swaps.specs.Prefix.{checkPrefix, prefixSwap}
 use Rattle.rules.proofs.ReplyLaws.{gives-refuses, one-refusal, one-verdict, one-looked}
 use Rattle.swaps.proofs.SwapCallTheorems.{same-numbers}
 
@@ -77,12 +75,6 @@ invert-once s a b p q = one-swap-given 64 _ _ a b p q
 -- `compose`
 pub compose-once : (s t : Swap) (a b : SwapAnswer) → SwapGiven 64 (checkSwaps 64 s t) (joined 64 s t) a → SwapGiven 64 (checkSwaps 64 s t) (joined 64 s t) b → a ≡ b
 compose-once s t a b p q = one-swap-given 64 _ _ a b p q
-
--- `prefix_swap`
-pub prefix-swap-once : (w : ℕ) (cs vs ds : List ℕ) (a b : SwapAnswer)
-    → SwapGiven 64 (checkPrefix w cs vs ds) (prefixSwap 64 w (rulesOf cs vs ds)) a
-    → SwapGiven 64 (checkPrefix w cs vs ds) (prefixSwap 64 w (rulesOf cs vs ds)) b → a ≡ b
-prefix-swap-once w cs vs ds a b p q = one-swap-given 64 _ _ a b p q
 
 -- `lookup_swapped`
 pub lookup-swapped-once : (w : ℕ) (cs vs ds : List ℕ) (h : Swapped) (a b : Looked)

@@ -60,7 +60,7 @@ fn wide(x: u8) -> usize
 }
 
 // The bit of a word at a place.
-pub(crate) fn bit_at(width: u32, word: u64, place: u8) -> u64
+fn bit_at(width: u32, word: u64, place: u8) -> u64
     requires { ⌜ (1 ≤ place) × (place ≤ width) × (width ≤ 64) ⌝ }
     ensures { λ r. ⌜ r ≡ placeBit width word place ⌝ }
 {
@@ -148,7 +148,7 @@ fn moved_word(places: &[u8; 64], width: u32, word: u64) -> u64
 }
 
 // The places of the inverse.
-pub(crate) fn inverse_places(places: &[u8; 64], width: usize) -> [u8; 64]
+fn inverse_places(places: &[u8; 64], width: usize) -> [u8; 64]
     requires { ⌜ width ≤ 64 ⌝ }
     ensures { λ r. ⌜ r ≡ inverse 64 width (now (places .entry)) ⌝ }
 {
@@ -241,7 +241,7 @@ fn swaps_verdict(first: &[u8; 64], width: u32, second: &[u8; 64], other: u32) ->
 }
 
 // A refusal with the swap of zeros beside it.
-pub(crate) fn refused_swap(refusal: Refusal) -> SwapAnswer
+fn refused_swap(refusal: Refusal) -> SwapAnswer
     ensures { λ r. ⌜ (r .verdict ≡ Verdict.Refused refusal) × (r .swap ≡ noSwap 64) ⌝ }
 {
     SwapAnswer {

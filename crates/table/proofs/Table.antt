@@ -8,7 +8,7 @@ use Rattle.rules.specs.Slices.{rulesOf}
 use Rattle.rules.specs.Replies.{Gives, Refuses}
 use Rattle.rules.specs.Checks.{widthCheck, lengthsCheck, sizeCheck, patternFits, ruleCheck, rulesCheck, listCheck, headerCheck}
 use Rattle.rules.specs.Calls.{checkList, lookedUp}
-use Rattle.swaps.specs.Prefix.{checkPrefix, crossCheck, crossesAmong, crossesWith}
+use Rattle.prefixes.specs.Prefix.{checkPrefix, crossCheck, crossesAmong, crossesWith}
 use Rattle.weaving.specs.Runs.{cut, runs, runSizes}
 use Rattle.weaving.specs.Weave.{weave, kept, dropped, merges}
 use Rattle.compare.specs.Runs.{run, runs as runsOf, runsTo, differences, portion, ending}

@@ -117,7 +117,7 @@ fn show_sizes(sizes: &[u16], count: usize) {
 
 // The prefix bit-swap, or the first two rules that cross.
 fn show_order(width: u32, care: &[u64], value: &[u64], decision: &[u16]) {
-    let a = swaps::prefix_swap(width, care, value, decision);
+    let a = prefixes::prefix_swap(width, care, value, decision);
     let v = a.verdict;
     let swap = a.swap;
     match v {

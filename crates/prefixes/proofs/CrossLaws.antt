@@ -13,7 +13,7 @@ use Rattle.rules.specs.declared.Verdict.{Verdict}
 use Rattle.rules.specs.Rules.{crosses}
 use Rattle.rules.specs.Slices.{ruleAt}
 use Rattle.rules.specs.Replies.{Reply, Gives, Refuses, passed, need, _then_, verdictReply}
-use Rattle.swaps.specs.Prefix.{crossesWith, crossesAmong}
+use Rattle.prefixes.specs.Prefix.{crossesWith, crossesAmong}
 use Rattle.rules.proofs.Tests.{split, eqb-yes, no-eqb}
 use Rattle.rules.proofs.ReplyLaws.{then-next, then-refuses, gives-refuses, need-yes, need-no}
 
