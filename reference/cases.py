@@ -183,7 +183,7 @@ class Maker:
                 if slice and self.chance(50):
                     slice.pop()
                 else:
-                    slice.extend([0] * self.pick(1, 1, 2, 1000))
+                    slice.extend([0] * self.pick(1, 1, 2, 1000 if len(slice) < 3000 else 3))
             elif self.chance(20):
                 for slice in (care, value, decision):
                     slice.extend([0] * (self.pick(1025, 1026) - len(slice)))

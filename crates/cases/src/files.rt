@@ -31,16 +31,12 @@ fn case_end(s: &[u8], first_end: usize) -> usize {
     end
 }
 
-fn is_start(s: &[u8], from: usize, at: usize) -> bool {
-    byte(s, at) == 10 && from <= at
-}
-
 // How many lines end in a part of the text.
 fn lines_in(s: &[u8], from: usize, end: usize) -> u64 {
     let mut n = 0;
     let mut at = from;
     while at < end {
-        if is_start(s, from, at) {
+        if byte(s, at) == 10 {
             n = std::num::wrapping_add_u64(n, 1);
         }
         at += 1;

@@ -1,4 +1,5 @@
 // The words of a case, each with its number: the names of calls and of arguments.
+use crate::source::byte;
 use crate::source::part;
 use crate::source::word_end;
 use crate::source::word_start;
@@ -117,8 +118,11 @@ pub const TO: usize = 55;
 
 pub const NONE: usize = 56;
 
-// Which word this is; one that is none of them has the number 99.
+// Which word this is; one that is none of them has the number 99. Most words of a case are numbers, which start with no letter.
 pub fn number_of(word: &[u8]) -> usize {
+    if byte(word, 0) < 97 {
+        return 99;
+    }
     let all: &[u8] =
         b"check_list check_list_as lookup lookup_number lookup_swapped prefix_swap runs weave write compare check_rule rule_at put_rule rule_covers rule_crosses covers crosses distance apply_rule apply undo invert compose check width count entry body body_refusal read compare_lists compare_first list old new into headers header as number rule rules place swap start image id ids counts care value decision first last times to none";
     let mut at = 0;

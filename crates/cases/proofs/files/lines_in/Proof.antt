@@ -4,7 +4,7 @@ use Rattle.cases.proofs.files.lines_in.Statement.{statement}
 use Rattle.cases.proofs.files.lines_in.Tie as tie
 use Rattle.cases.proofs.files.lines_in.Reads as reads
 use Rattle.cases.proofs.files.lines_in.Lts as lts
-use Rattle.cases.proofs.files.is_start.Reads as is-start-reads
+use Rattle.cases.proofs.source.byte.Reads as byte-reads
 use Rattle.std.proofs.num.wrapping_add_u64.Reads as wrapping-add-u64-reads
 
 abbrev Inv-loop : tie.InvT-loop
@@ -16,8 +16,8 @@ abbrev μ-loop : tie.MeasureT-loop
 loop-holds : tie.Need-loop-holds Inv-loop μ-loop
 loop-holds c = search needs
 
-is-start-requires : tie.Need-is-start-requires Inv-loop μ-loop
-is-start-requires c κs = search needs
+byte-requires : tie.Need-byte-requires Inv-loop μ-loop
+byte-requires c κs = search needs
 
 wrapping-add-u64-requires : tie.Need-wrapping-add-u64-requires Inv-loop μ-loop
 wrapping-add-u64-requires c κs = search needs
@@ -41,7 +41,7 @@ lines-in-spec =
     Inv-loop
     μ-loop
     loop-holds
-    is-start-requires
+    byte-requires
     wrapping-add-u64-requires
     add-at
     loop-less

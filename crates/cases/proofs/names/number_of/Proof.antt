@@ -4,6 +4,7 @@ use Rattle.cases.proofs.names.number_of.Statement.{statement}
 use Rattle.cases.proofs.names.number_of.Tie as tie
 use Rattle.cases.proofs.names.number_of.Reads as reads
 use Rattle.cases.proofs.names.number_of.Lts as lts
+use Rattle.cases.proofs.source.byte.Reads as byte-reads
 use Rattle.cases.proofs.source.part.Reads as part-reads
 use Rattle.cases.proofs.source.word_end.Reads as word-end-reads
 use Rattle.cases.proofs.source.word_start.Reads as word-start-reads
@@ -14,6 +15,12 @@ Inv-loop word all at₀ k₀ at k = Unit {0}
 
 abbrev μ-loop : tie.MeasureT-loop
 μ-loop word all at₀ k₀ at k = 57 - k
+
+byte-requires : tie.Need-byte-requires Inv-loop μ-loop
+byte-requires c κs = search needs
+
+returns : tie.Need-returns Inv-loop μ-loop
+returns c = search needs
 
 slice-aggregate-all : tie.Need-slice-aggregate-all Inv-loop μ-loop
 slice-aggregate-all c = search needs
@@ -33,8 +40,8 @@ part-requires c κs = search needs
 same-requires : tie.Need-same-requires Inv-loop μ-loop
 same-requires c κs = search needs
 
-returns : tie.Need-returns Inv-loop μ-loop
-returns c = search needs
+returns-2 : tie.Need-returns-2 Inv-loop μ-loop
+returns-2 c = search needs
 
 add-k : tie.Need-add-k Inv-loop μ-loop
 add-k c = search needs
@@ -45,8 +52,8 @@ loop-less c = search needs
 loop-again : tie.Need-loop-again Inv-loop μ-loop
 loop-again c = search needs
 
-returns-2 : tie.Need-returns-2 Inv-loop μ-loop
-returns-2 c = search needs
+returns-3 : tie.Need-returns-3 Inv-loop μ-loop
+returns-3 c = search needs
 
 pub number-of-spec : {M : Type 1} → statement M
 number-of-spec =
@@ -54,14 +61,16 @@ number-of-spec =
     (tie.spec
     Inv-loop
     μ-loop
+    byte-requires
+    returns
     slice-aggregate-all
     loop-holds
     word-start-requires
     word-end-requires
     part-requires
     same-requires
-    returns
+    returns-2
     add-k
     loop-less
     loop-again
-    returns-2)
+    returns-3)
