@@ -60,6 +60,8 @@ class Words:
         while self.next() != "]":
             times = self.times()
             word = self.take()
+            if times != 1 and (":" in word or self.next() == "to"):
+                raise Unreadable("times stands before one number: " + word)
             if ":" in word and most == 255:
                 number, size = word.split(":")
                 found += number_of(number, 2**128 - 1).to_bytes(number_of(size, 16), "little")
@@ -110,8 +112,8 @@ class Words:
             sides = [("first", 2**64 - 1), ("last", 2**64 - 1), ("old", 65535), ("new", 65535)]
             return [self.numbers(name, most) for name, most in sides]
         all = self.numbers()
-        if len(all) % 4:
-            raise Unreadable("a run has four numbers")
+        if len(all) % 4 or any(number > 65535 for number in all[2::4] + all[3::4]):
+            raise Unreadable("a run has two headers and two answers")
         return [all[k::4] for k in range(4)]
 
     def swap(self):

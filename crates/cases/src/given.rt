@@ -84,6 +84,15 @@ struct Item {
     at: usize,
 }
 
+fn no_item(start: usize) -> Item {
+    Item {
+        value: 0,
+        times: 0,
+        way: Way::Same,
+        at: bad(start),
+    }
+}
+
 // `12:4`: a number in so many bytes, the lowest first. Only a slice of bytes has it.
 fn in_bytes(s: &[u8], from: usize, colon: usize, end: usize, most: u64) -> Item {
     let x = number_in(s, from, colon, 18446744073709551615);
@@ -98,12 +107,7 @@ fn in_bytes(s: &[u8], from: usize, colon: usize, end: usize, most: u64) -> Item 
             };
         }
     }
-    Item {
-        value: 0,
-        times: 0,
-        way: Way::Bytes,
-        at: bad(from),
-    }
+    no_item(from)
 }
 
 // `2 to 9`: each number from the first to the last.
@@ -117,31 +121,43 @@ fn counted_up(s: &[u8], first: u64, at: usize, most: u64) -> Item {
             at: last.at,
         };
     }
-    Item {
-        value: 0,
-        times: 0,
-        way: Way::Up,
-        at: bad(at),
-    }
+    no_item(at)
 }
 
-fn next_item(s: &[u8], from: usize, most: u64) -> Item {
-    let t = times(s, from);
-    let at = word_start(s, t.at);
-    let end = word_end(s, at);
+// What stands here, where it is said once.
+fn once(s: &[u8], at: usize, end: usize, most: u64) -> Item {
     let colon = byte_from(s, at, end, 58);
     if colon < end {
         return in_bytes(s, at, colon, end, most);
     }
     let n = number_in(s, at, end, most);
-    if is_next(s, end, TO) {
+    if is_next(s, end, TO) && !is_bad(n.at) {
         return counted_up(s, n.value, end, most);
     }
     Item {
         value: n.value,
-        times: t.value,
+        times: 1,
         way: Way::Same,
         at: n.at,
+    }
+}
+
+// The next numbers. `times` stands before one number alone.
+fn next_item(s: &[u8], from: usize, most: u64) -> Item {
+    let t = times(s, from);
+    let at = word_start(s, t.at);
+    let x = once(s, at, word_end(s, at), most);
+    if t.value == 1 {
+        return x;
+    }
+    if x.times != 1 {
+        return no_item(from);
+    }
+    Item {
+        value: x.value,
+        times: t.value,
+        way: Way::Same,
+        at: x.at,
     }
 }
 

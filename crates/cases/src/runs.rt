@@ -1,6 +1,5 @@
 // The four result slices of a comparison, as a case hands them in.
 use crate::given;
-use crate::given::Filled;
 use crate::names::FIRST;
 use crate::names::INTO;
 use crate::names::LAST;
@@ -9,6 +8,7 @@ use crate::names::OLD;
 use crate::slices;
 use crate::source::after;
 use crate::source::bad;
+use crate::source::is_bad;
 use crate::source::is_next;
 
 // How long the four slices are, and the position after them.
@@ -46,11 +46,29 @@ fn put_halves(numbers: &[u64], k: usize, out: &mut [u16]) {
     slices::to_halves(wide, out);
 }
 
-fn whole_runs(f: Filled) -> usize {
-    if f.count % 4 == 0 {
-        return f.at;
+// Whether the answers of all runs are answers that a slice can hold.
+fn are_answers(numbers: &[u64], count: usize) -> bool {
+    let mut i = 0;
+    while i < count {
+        if i % 4 > 1 && slices::word_at(numbers, i) > 65535 {
+            return false;
+        }
+        i += 1;
     }
-    bad(f.at)
+    true
+}
+
+// The position after so many numbers, where they are whole runs; else a bad one at their start.
+fn whole_runs(numbers: &[u64], count: usize, start: usize, end: usize) -> usize {
+    if is_bad(end) {
+        return end;
+    }
+    if count % 4 == 0 {
+        if are_answers(numbers, count) {
+            return end;
+        }
+    }
+    bad(start)
 }
 
 // The argument `into`: runs of four numbers each in brackets, or the four slices `first`, `last`, `old` and `new`.
@@ -89,6 +107,6 @@ pub fn runs(
         lasts: count,
         olds: count,
         news: count,
-        at: whole_runs(f),
+        at: whole_runs(all, f.count, at, f.at),
     }
 }
