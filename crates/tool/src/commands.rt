@@ -5,11 +5,11 @@ use crate::lines;
 use crate::lists;
 use crate::questions;
 use crate::squeezing;
-use words::Command;
+use command_line::Command;
 
 // The first word, the place of the name, and how many words there are with the name.
 pub(crate) fn run(word: &[u8], at: usize, words: usize) {
-    let command = words::asked(word, words);
+    let command = command_line::asked(word, words);
     match command {
         Command::Check => lists::check_file(at),
         Command::Show => lists::show_file(at),

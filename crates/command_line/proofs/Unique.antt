@@ -2,8 +2,8 @@
 use mathlib.Core.Path.{_≡_, sym, _∙_}
 use mathlib.Core.List.{List}
 use Prim.Native.Nat.{ℕ}
-use Rattle.words.specs.declared.Command.{Command}
-use Rattle.words.specs.Words.{commandOf}
+use Rattle.command_line.specs.declared.Command.{Command}
+use Rattle.command_line.specs.Words.{commandOf}
 
 -- `asked`
 pub asked-once : (word : List ℕ) (words : ℕ) (a b : Command) → a ≡ commandOf word words → b ≡ commandOf word words → a ≡ b

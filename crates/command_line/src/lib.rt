@@ -1,6 +1,6 @@
 // Which command the words of the tool's command line ask for.
 ghost use mathlib.Core.Path.{_≡_};
-ghost use Rattle.words.specs.Words.{asks, commandOf};
+ghost use Rattle.command_line.specs.Words.{asks, commandOf};
 
 // What a command line can ask for.
 pub enum Command {

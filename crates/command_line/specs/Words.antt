@@ -3,7 +3,7 @@ use Prim.Native.Nat.{ℕ}
 use mathlib.Core.List.{List, [], _∷_}
 use mathlib.Core.Bool.{Bool, true, false, _&&_}
 use lib.Dec.{eqb}
-use Rattle.words.specs.declared.Command.{Command}
+use Rattle.command_line.specs.declared.Command.{Command}
 
 -- The names, byte by byte: check, show, lookup, runs, weave, compare.
 abbrev pub checkName : List ℕ

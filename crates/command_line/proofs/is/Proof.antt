@@ -1,13 +1,13 @@
-use Rattle.words.specs.Words.{asks}
+use Rattle.command_line.specs.Words.{asks}
 use Rattle.rules.proofs.Tests.{and-on, and-off}
-use Rattle.words.proofs.WordLaws.{same-decided}
+use Rattle.command_line.proofs.WordLaws.{same-decided}
 use borrow.Author.Tests.{eq-eqb, ne-eqb}
 use mathlib.Core.Path.{_≡_, refl, sym, ap, _∙_}
 use borrow.Author.Needs.{needs}
-use Rattle.words.proofs.is.Statement.{statement}
-use Rattle.words.proofs.is.Tie as tie
-use Rattle.words.proofs.is.Reads as reads
-use Rattle.words.proofs.is.Lts as lts
+use Rattle.command_line.proofs.is.Statement.{statement}
+use Rattle.command_line.proofs.is.Tie as tie
+use Rattle.command_line.proofs.is.Reads as reads
+use Rattle.command_line.proofs.is.Lts as lts
 use Rattle.check.proofs.same.Reads as same-reads
 
 same-requires : tie.Need-same-requires

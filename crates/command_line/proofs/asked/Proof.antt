@@ -1,11 +1,11 @@
-use Rattle.words.specs.Words.{commandOf}
+use Rattle.command_line.specs.Words.{commandOf}
 use mathlib.Core.Path.{_≡_, refl, sym, ap, _∙_}
 use borrow.Author.Needs.{needs}
-use Rattle.words.proofs.asked.Statement.{statement}
-use Rattle.words.proofs.asked.Tie as tie
-use Rattle.words.proofs.asked.Reads as reads
-use Rattle.words.proofs.asked.Lts as lts
-use Rattle.words.proofs.is.Reads as is-reads
+use Rattle.command_line.proofs.asked.Statement.{statement}
+use Rattle.command_line.proofs.asked.Tie as tie
+use Rattle.command_line.proofs.asked.Reads as reads
+use Rattle.command_line.proofs.asked.Lts as lts
+use Rattle.command_line.proofs.is.Reads as is-reads
 
 slice-aggregate-is : tie.Need-slice-aggregate-is
 slice-aggregate-is c = search needs
