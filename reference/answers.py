@@ -11,6 +11,9 @@ import sys
 import model
 from model import Refused, Swap
 
+LARGEST_WORD = model.HALF**2 - 1
+MOST = 100000  # more numbers of a slice than this are not meant
+
 
 class Unreadable(Exception):
     pass
@@ -46,31 +49,49 @@ class Words:
     def times(self):
         """How often what follows is meant."""
         if len(self.left) > 1 and self.left[-2] == "times":
-            count = self.number()
+            count = self.number(None, MOST)
             self.expect("times")
             return count
         return 1
+
+    def header(self, name):
+        return self.number(name, LARGEST_WORD)
 
     def numbers(self, name=None, most=2**64 - 1):
         """A slice of numbers."""
         if name:
             self.expect(name)
         self.expect("[")
+        found = self.numbers_before(("]",), most)
+        self.expect("]")
+        return found
+
+    def slice_of_words(self, name):
+        """A slice of words as it is lent: two numbers to a word, the low half first, and one more number after `half`."""
+        self.expect(name)
+        self.expect("[")
+        lent = model.halves_of(self.numbers_before(("half", "]"), LARGEST_WORD))
+        if self.next() == "half":
+            lent.append(self.number("half"))
+        self.expect("]")
+        return lent
+
+    def numbers_before(self, ends, most):
         found = []
-        while self.next() != "]":
+        while self.next() not in ends:
             times = self.times()
             word = self.take()
             if times != 1 and (":" in word or self.next() == "to"):
                 raise Unreadable("times stands before one number: " + word)
             if ":" in word and most == 255:
-                number, size = word.split(":")
-                found += number_of(number, 2**128 - 1).to_bytes(number_of(size, 16), "little")
+                found += bytes_of(*word.split(":"))
             elif self.next() == "to":
-                self.expect("to")
-                found += range(number_of(word, most), self.number(None, most) + 1)
+                first, last = number_of(word, most), self.number("to", most)
+                if not first <= last < first + MOST:
+                    raise Unreadable("no such numbers: %d to %d" % (first, last))
+                found += range(first, last + 1)
             else:
                 found += [number_of(word, most)] * times
-        self.expect("]")
         return found
 
     def bytes(self, name):
@@ -79,8 +100,8 @@ class Words:
     def rule(self):
         word = self.take()
         if "/" in word:
-            care, value = (number_of(x, 2**64 - 1) for x in word.split("/"))
-        elif re.fullmatch("[01*]{1,64}", word):
+            care, value = (number_of(x, LARGEST_WORD) for x in word.split("/"))
+        elif re.fullmatch("[01*]{1,128}", word):
             care, value = model.care_word(word), model.value_word(word)
         else:
             raise Unreadable("no rule: " + word)
@@ -90,39 +111,48 @@ class Words:
         """Three slices: rules in brackets, or each slice by itself."""
         self.expect(name)
         if self.next() == "care":
-            return [self.numbers("care"), self.numbers("value"), self.numbers("decision", 65535)]
+            return self.slice_of_words("care"), self.slice_of_words("value"), self.numbers("decision", 65535)
+        return model.slices_of(self.rules())
+
+    def rules(self, name=None, count=None):
+        """Rules in brackets, so many of them where that is said."""
+        if name:
+            self.expect(name)
         self.expect("[")
         rules = []
         while self.next() != "]":
             times = self.times()
             rules += [self.rule()] * times
         self.expect("]")
-        return [[rule[k] for rule in rules] for k in range(3)]
-
-    def rules(self, name, count):
-        list = self.list(name)
-        if [len(slice) for slice in list] != [count] * 3:
+        if count not in (None, len(rules)):
             raise Unreadable("so many rules are not meant: %s" % name)
-        return [rule for rule in zip(*list)]
+        return rules
 
     def runs(self):
         """The four result slices of a comparison."""
         self.expect("into")
         if self.next() == "first":
-            sides = [("first", 2**64 - 1), ("last", 2**64 - 1), ("old", 65535), ("new", 65535)]
-            return [self.numbers(name, most) for name, most in sides]
-        all = self.numbers()
+            return self.slice_of_words("first"), self.slice_of_words("last"), self.numbers("old", 65535), self.numbers("new", 65535)
+        all = self.numbers(None, LARGEST_WORD)
         if len(all) % 4 or any(number > 65535 for number in all[2::4] + all[3::4]):
             raise Unreadable("a run has two headers and two answers")
-        return [all[k::4] for k in range(4)]
+        return model.halves_of(all[0::4]), model.halves_of(all[1::4]), all[2::4], all[3::4]
 
     def swap(self):
         width = self.number("swap", 2**32 - 1)
         places = self.numbers(None, 255)
-        return Swap(places + [0] * (64 - len(places)), width)
+        if len(places) > model.WIDEST:
+            raise Unreadable("too many entries")
+        return Swap(places + [0] * (model.WIDEST - len(places)), width)
 
     def width(self):
         return self.number("width", 2**32 - 1)
+
+
+def bytes_of(word, size):
+    """A number in so many bytes, the lowest first."""
+    size = number_of(size, 16)
+    return number_of(word, 256**size - 1).to_bytes(size, "little")
 
 
 def number_of(word, most):
@@ -176,6 +206,11 @@ def numbers_said(slice):
     return shortened(list(slice), " ")
 
 
+def words_said(slice):
+    """The words of a slice, and the number that is left over at its end."""
+    return numbers_said(model.words_of(slice) + ["half %d" % half for half in slice[len(slice) // 2 * 2 :]])
+
+
 def rule_said(width, rule):
     try:
         model.check_rule(width, 1, 1, (rule[0], rule[1], 0))
@@ -184,10 +219,14 @@ def rule_said(width, rule):
         return "%d/%d %d" % rule
 
 
+def rules_said(width, rules):
+    return shortened([rule_said(width, rule) for rule in rules], ", ")
+
+
 def list_said(width, care, value, decision):
-    if len(care) == len(value) == len(decision):
-        return shortened([rule_said(width, rule) for rule in zip(care, value, decision)], ", ")
-    return "care %s value %s decision %s" % tuple(numbers_said(slice) for slice in (care, value, decision))
+    if model.belong_together(care, value, decision):
+        return rules_said(width, model.words_and_decisions(care, value, decision))
+    return "care %s value %s decision %s" % (words_said(care), words_said(value), numbers_said(decision))
 
 
 def swap_said(call, *arguments):
@@ -202,11 +241,13 @@ def swap_said(call, *arguments):
     return "fine swap %d %s" % (swap.width, numbers_said(places))
 
 
-def runs_said(results):
-    if len(set(len(slice) for slice in results)) > 1:
-        return " into first %s last %s old %s new %s" % tuple(numbers_said(slice) for slice in results)
+def runs_said(first, last, old, new):
+    if not len(first) == len(last) == 2 * len(old) == 2 * len(new):
+        slices = words_said(first), words_said(last), numbers_said(old), numbers_said(new)
+        return " into first %s last %s old %s new %s" % slices
     none = lambda x: "none" if x == model.NO_MATCH else str(x)
-    return " into [%s]" % ", ".join("%d %d %s %s" % (a, b, none(o), none(n)) for a, b, o, n in zip(*results))
+    runs = zip(model.words_of(first), model.words_of(last), old, new)
+    return " into [%s]" % ", ".join("%d %d %s %s" % (a, b, none(o), none(n)) for a, b, o, n in runs)
 
 
 def decided(call, *arguments):
@@ -221,7 +262,7 @@ def compared(results, call, *arguments):
         text = "%d %s" % (count, "finished" if more is None else "more from %d" % more)
     except Refused as refusal:
         text = "0 " + refused(refusal)
-    return text + runs_said(results)
+    return text + runs_said(*results)
 
 
 # The calls. Each takes its arguments from the words, and answers as text. -----------------------------------------------
@@ -238,7 +279,7 @@ def check_list_as(words):
 
 
 def lookup(words):
-    width, list, headers = words.width(), words.list("list"), words.numbers("headers")
+    width, list, headers = words.width(), words.list("list"), words.numbers("headers", LARGEST_WORD)
     return lambda: ", ".join(decided(model.lookup, width, *list, header) for header in headers)
 
 
@@ -262,7 +303,7 @@ def bare_pair(call):
 
     def asked(words):
         a, b = words.rules("rules", 2)
-        return lambda: said(call, 64, a, b)
+        return lambda: said(call, model.WIDEST, a, b)
 
     return asked
 
@@ -302,12 +343,12 @@ def apply_rule(words):
 
 
 def apply(words):
-    swap, header = words.swap(), words.number("header")
+    swap, header = words.swap(), words.header("header")
     return lambda: said(model.apply, swap, header)
 
 
 def undo(words):
-    swap, header = words.swap(), words.number("header")
+    swap, header = words.swap(), words.header("header")
     return lambda: said(model.undo, swap, header)
 
 
@@ -341,7 +382,7 @@ def weave(words):
 
 def compare(words):
     width, old, new = words.width(), words.list("old"), words.list("new")
-    start, results = words.number("start"), words.runs()
+    start, results = words.header("start"), words.runs()
     return lambda: compared(results, model.compare, width, old, new, start)
 
 
@@ -399,20 +440,20 @@ def read(words):
 
 
 def write(words):
-    width, list = words.width(), words.list("list")
+    format, width, list = words.number("format", 255), words.width(), words.list("list")
     ids, counts, out = words.numbers("ids", 65535), words.numbers("counts", 65535), words.numbers("into", 255)
-    return lambda: said(model.write, width, counts, ids, *list, out) + " into " + numbers_said(out)
+    return lambda: said(model.write, format, width, counts, ids, *list, out) + " into " + numbers_said(out)
 
 
 def compare_lists(words):
     old, old_id = words.bytes("old"), words.number("id", 65535)
     new, new_id = words.bytes("new"), words.number("id", 65535)
-    start, results = words.number("start"), words.runs()
+    start, results = words.header("start"), words.runs()
     return lambda: compared(results, model.compare_lists, old, old_id, new, new_id, start)
 
 
 def compare_first(words):
-    old, new, start, results = words.bytes("old"), words.bytes("new"), words.number("start"), words.runs()
+    old, new, start, results = words.bytes("old"), words.bytes("new"), words.header("start"), words.runs()
     return lambda: compared(results, model.compare_first, old, new, start)
 
 
@@ -440,6 +481,7 @@ CALLS = {
     "weave": weave,
     "compare": compare,
     "check": on_image(model.check_image),
+    "format": on_image(model.image_format),
     "width": on_image(model.image_width),
     "count": on_image(model.image_count),
     "entry": entry,

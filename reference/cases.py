@@ -3,32 +3,23 @@
     cases.py SEED COUNT [--small] [KIND..]
 
 writes COUNT cases to standard output. The kinds are those of KINDS below, or the name of a library for all of its kinds, and all
-of them where none is named. The same seed gives the same cases. With --small a case has at most 500 bytes.
+of them where none is named. The same seed gives the same cases. With --small a case has at most 1,000 bytes.
+
+A list is held as it is lent: its three slices, with two numbers to a care word and to a value word.
 """
 import random
 import sys
 
 import answers
 import model
-from answers import numbers_said, rule_said, shortened
-from model import Refused, Swap
+from answers import list_said, numbers_said, rules_said
+from model import HALF, WIDEST, Swap, slices_of, words_and_decisions
 
-BAD_WIDTHS = [0, 65, 66, 128, 255, 2**31, 2**32 - 1]
+MOST_BYTES = 65600  # of a slice of bytes in a case
+BAD_WIDTHS = [0, 129, 130, 192, 255, 256, 2**31, 2**32 - 1]
 
 
 # What is handed in, as text. ---------------------------------------------------------------------------------------------
-
-
-def list_text(width, list):
-    """Rules, or the three slices where they differ in length."""
-    care, value, decision = list
-    if len(care) == len(value) == len(decision):
-        return shortened([rule_said(width, rule) for rule in zip(*list)], ", ")
-    return "care %s value %s decision %s" % tuple(numbers_said(slice) for slice in list)
-
-
-def rules_text(width, *rules):
-    return shortened([rule_said(width, rule) for rule in rules], ", ")
 
 
 def swap_text(swap):
@@ -45,21 +36,29 @@ def marks(first, length):
     return "[%d to %d]" % (first, first + length - 1) if length <= 12 else "[%d times %d]" % (length, first)
 
 
-def list_marks(lengths):
-    return "care %s value %s decision %s" % tuple(marks(first, length) for first, length in zip((40000, 50000, 60000), lengths))
+def word_marks(high, low, length):
+    """The same for a slice of words with so many numbers: neither half of a word is 0, and one number may be left over."""
+    first, count = high * HALF + low, length // 2
+    words = "%#x to %#x" % (first, first + count - 1) if count <= 12 else "%d times %#x" % (count, first)
+    return "[%s]" % " ".join(([words] if count else []) + ["half %d" % high] * (length % 2))
 
 
-def run_marks(lengths):
-    return "first %s last %s old %s new %s" % tuple(
-        marks(first, length) for first, length in zip((30000, 40000, 50000, 60000), lengths)
-    )
+def list_marks(cares, values, decisions):
+    """Result slices of a list, with so many numbers each."""
+    return "care %s value %s decision %s" % (word_marks(7, 40000, cares), word_marks(8, 50000, values), marks(60000, decisions))
+
+
+def run_marks(firsts, lasts, olds, news):
+    """Result slices of a comparison, with so many numbers each."""
+    headers = "first %s last %s" % (word_marks(5, 30000, firsts), word_marks(6, 40000, lasts))
+    return "%s old %s new %s" % (headers, marks(50000, olds), marks(60000, news))
 
 
 class Maker:
-    """Makes the parts of cases by a random source."""
+    """Makes the parts of cases by a random source; with few result places where cases are to be small."""
 
-    def __init__(self, seed):
-        self.random = random.Random(seed)
+    def __init__(self, seed, small=False):
+        self.random, self.small = random.Random(seed), small
 
     def chance(self, percent):
         return self.random.randrange(100) < percent
@@ -70,7 +69,9 @@ class Maker:
     # Good parts.
 
     def width(self):
-        return self.pick(1, 2, 3, 4, 4, 5, 6, 8, self.random.randint(1, 64), self.random.randint(9, 63), 63, 64, 64)
+        """Small, at the seam between the halves of a word, as wide as five fields, the widest, or any."""
+        small, seam = self.pick(1, 2, 3, 4, 4, 5, 6, 8), self.random.randint(60, 68)
+        return self.pick(small, small, small, seam, 64, 65, self.random.randint(100, 104), 127, 128, 128, self.random.randint(1, 128))
 
     def decision(self):
         return self.pick(0, 1, 1, 2, 2, 3, self.random.randrange(65535), 65534)
@@ -81,7 +82,8 @@ class Maker:
     def near(self, text):
         """A pattern like this one, so that rules cover, cross and merge."""
         place = self.random.randrange(len(text))
-        return text[:place] + self.pick("0", "1", "*") + text[place + 1 :]
+        other = {"0": "1", "1": "0", "*": "*"}[text[place]]
+        return text[:place] + self.pick("0", "1", "*", other, other) + text[place + 1 :]
 
     def prefix(self, width):
         length = self.random.randint(0, width)
@@ -110,27 +112,23 @@ class Maker:
     def list_of(self, width, count):
         texts = self.patterns(width, count)
         few = [self.decision() for _ in range(self.pick(1, 2, 5))]
-        return (
-            [model.care_word(t) for t in texts],
-            [model.value_word(t) for t in texts],
-            [self.random.choice(few) for _ in texts],
-        )
+        return slices_of([(model.care_word(t), model.value_word(t), self.random.choice(few)) for t in texts])
 
     def prefix_list(self, width, count):
         """Many rules that are prefixes, with one decision of few."""
         texts = [self.prefix(width) for _ in range(count)]
-        return ([model.care_word(t) for t in texts], [model.value_word(t) for t in texts], [self.pick(1, 2, 3) for _ in texts])
+        return slices_of([(model.care_word(t), model.value_word(t), self.pick(1, 2, 3)) for t in texts])
 
     def rule(self, width):
-        care, value, decision = self.list_of(width, 1)
-        return care[0], value[0], decision[0]
+        return words_and_decisions(*self.list_of(width, 1))[0]
 
     def header(self, width, list=None):
         """A header of the width, often one that some rule of the list matches."""
         header = self.random.getrandbits(width)
-        if list and list[0] and list[1] and self.chance(60):
-            k = self.random.randrange(min(len(list[0]), len(list[1])))
-            header = (list[1][k] | (header & ~list[0][k])) % 2**width
+        rules = words_and_decisions(*list) if list else []
+        if rules and self.chance(60):
+            care, value, _ = self.random.choice(rules)
+            header = (value | (header & ~care)) % 2**width
         return self.pick(header, header, header, header, 0, 2**width - 1)
 
     def swap(self, width):
@@ -142,14 +140,15 @@ class Maker:
         return self.random.choice(BAD_WIDTHS)
 
     def bad_header(self, width):
-        """A header outside the width, where there is one."""
-        if width >= 64:
-            return 2**64 - 1
-        return min(2**64 - 1, self.pick(2**width, 2**width + self.random.getrandbits(width), 2**64 - 1, 2**63))
+        """A header outside the width, where there is one; its low half may be one inside."""
+        inside = self.random.getrandbits(width)
+        if width >= WIDEST:
+            return 2**WIDEST - 1
+        return self.pick(2**width, 2**width + inside, inside | self.outside(width), max(HALF, 2**width) | inside, 2**127, 2**128 - 1)
 
     def outside(self, width):
         """A bit at a weight outside the width; 0 where there is none."""
-        return 0 if width >= 64 else 1 << self.random.randint(width, 63)
+        return 0 if width >= WIDEST else 1 << self.pick(self.random.randint(width, WIDEST - 1), max(width, 64), width)
 
     def bad_rule(self, width, rule):
         care, value, decision = rule
@@ -167,27 +166,35 @@ class Maker:
         elif fault == 4:
             decision = 65535
         else:
-            value, decision = 2**64 - 1, 65535
+            value, decision = 2**128 - 1, 65535
         return care, value, decision
 
     def bad_list(self, width, list):
-        care, value, decision = [x[:] for x in list]
+        list = [slice[:] for slice in list]
         for _ in range(self.pick(1, 1, 2, 3)):
             fault = self.random.randrange(10)
             if fault < 6:
-                if min(len(care), len(value), len(decision)) > 0:
-                    k = self.random.randrange(min(len(care), len(value), len(decision)))
-                    care[k], value[k], decision[k] = self.bad_rule(width, (care[k], value[k], decision[k]))
+                rules = words_and_decisions(*list)
+                if rules:
+                    k = self.random.randrange(len(rules))
+                    model.put_rule(*list, k, self.bad_rule(width, rules[k]))
             elif fault < 9:
-                slice = self.pick(care, value, decision)
-                if slice and self.chance(50):
-                    slice.pop()
-                else:
-                    slice.extend([0] * self.pick(1, 1, 2, 1000 if len(slice) < 3000 else 3))
+                self.bad_lengths(list)
             elif self.chance(20):
-                for slice in (care, value, decision):
-                    slice.extend([0] * (self.pick(1025, 1026) - len(slice)))
-        return care, value, decision
+                count = self.pick(1025, 1026)
+                for slice, length in zip(list, (2 * count, 2 * count, count)):
+                    slice.extend([0] * (length - len(slice)))
+        return list
+
+    def bad_lengths(self, list):
+        """Takes numbers from one or two of the slices, or gives them some more: whole words, and odd ones."""
+        slices = self.random.sample(list, self.pick(1, 1, 2))
+        change = self.pick(-2, -1, 1, 1, 2, 3, 1500 if max(len(slice) for slice in list) < 2500 else 3)
+        for slice in slices:
+            if change < 0:
+                del slice[change:]
+            else:
+                slice.extend([0] * change)
 
     def bad_swap(self, swap):
         places, width = swap.places[:], swap.width
@@ -197,12 +204,12 @@ class Maker:
         elif fault == 1:
             places[self.random.randrange(width)] = places[self.random.randrange(width)]
         elif fault == 2:
-            places[self.random.randrange(width)] = self.pick(0, 255, (width + 1) % 256, 65)
-        elif fault == 3 and width < 64:
-            places[self.random.randrange(width, 64)] = self.pick(1, width, width + 1, 255)
+            places[self.random.randrange(width)] = self.pick(0, 255, width + 1, 65, 129)
+        elif fault == 3 and width < WIDEST:
+            places[self.random.randrange(width, WIDEST)] = self.pick(1, width, width + 1, 255)
         elif fault == 4 and width > 1:
             width -= 1
-        elif fault == 5 and width < 64:
+        elif fault == 5 and width < WIDEST:
             width += 1
         return Swap(places, width)
 
@@ -229,15 +236,30 @@ class Maker:
         swap = self.swap(width)
         return self.bad_swap(swap) if self.chance(percent) else swap
 
-    def lengths(self, count, need):
-        """Lengths of result slices: most often enough and equal."""
-        length = need + self.pick(0, 0, 1, 3, 70)
+    def room(self, need):
+        """The places of a result: most often enough."""
         if self.chance(15):
-            length = self.pick(0, max(need - 1, 0), need // 2)
-        lengths = [length] * count
+            return self.pick(0, max(need - 1, 0), need // 2)
+        return need + self.pick(0, 0, 1, 3, 70)
+
+    def numbers(self, *lengths):
+        """The numbers of each slice of a result: most often so many; now and then one or two of them have more, or fewer."""
+        lengths = list(lengths)
         if self.chance(10):
-            lengths[self.random.randrange(count)] += self.pick(1, 2)
+            change = self.pick(-1, 1, 1, 2)
+            for k in self.random.sample(range(len(lengths)), self.pick(1, 1, 2)):
+                lengths[k] = max(lengths[k] + change, 0)
         return lengths
+
+    def list_marks(self, need):
+        """Result slices of a list."""
+        room = self.room(need)
+        return list_marks(*self.numbers(2 * room, 2 * room, room))
+
+    def run_marks(self):
+        """Result slices of a comparison."""
+        room = self.pick(0, 1, 1, 2, 3, 5) if self.small else self.pick(0, 1, 1, 2, 3, 5, 20, 20, 40, 40)
+        return run_marks(*self.numbers(2 * room, 2 * room, room, room))
 
 
 # The kinds. Each makes one case. -----------------------------------------------------------------------------------------
@@ -248,7 +270,7 @@ def listed(make, most=12, percent=20):
     width = make.width()
     list = make.any_list(width, most, percent)
     given = make.any_width(width)
-    return width, list, "width %d list %s" % (given, list_text(width, list))
+    return width, list, "width %d list %s" % (given, list_said(width, *list))
 
 
 def check_list(make):
@@ -267,8 +289,8 @@ def lookup(make):
 
 def rule_at(make):
     _, list, text = listed(make, percent=50)
-    ends = [len(slice) for slice in list]
-    place = make.pick(0, 1, 2, ends[0], ends[1] - 1, ends[2] + 1, 2**64 - 1) % 2**64
+    ends = len(list[0]) // 2, len(list[1]) // 2, len(list[2])
+    place = make.pick(0, 1, 2, ends[0], ends[1] - 1, ends[2] + 1, 2**63, 2**64 - 1) % 2**64
     return "rule_at %s place %d" % (text[text.index("list") :], place)
 
 
@@ -276,18 +298,17 @@ def check_rule(make):
     good = make.width()
     width, rule = make.any_width(good), make.any_rule(good, 50)
     list, number = make.pick(0, 1, 2, 2**64 - 1), make.pick(0, 1, 7, 1024, 2**64 - 1)
-    return "check_rule width %d list %d number %d rule %s" % (width, list, number, rules_text(good, rule))
+    return "check_rule width %d list %d number %d rule %s" % (width, list, number, rules_said(good, [rule]))
 
 
 def pair_of(make, percent):
     good = make.width()
-    care, value, decision = make.list_of(good, 2)
-    a, b = zip(care, value, decision)
+    a, b = words_and_decisions(*make.list_of(good, 2))
     if make.chance(percent):
         a = make.bad_rule(good, a)
     if make.chance(percent):
         b = make.bad_rule(good, b)
-    return good, rules_text(good, a, b)
+    return good, rules_said(good, [a, b])
 
 
 def pair(make):
@@ -301,9 +322,9 @@ def bare_pair(make):
 
 def put_rule(make):
     good, list, text = listed(make, percent=50)
-    place = make.pick(0, 1, len(list[0]) - 1, len(list[1]), len(list[2]) + 1, 2**64 - 1) % 2**64
+    place = make.pick(0, 1, len(list[0]) // 2 - 1, len(list[1]) // 2, len(list[2]) + 1, 2**63, 2**64 - 1) % 2**64
     rule = make.any_rule(good, 50)
-    return "put_rule %s place %d rule %s" % (text[text.index("list") :], place, rules_text(good, rule))
+    return "put_rule %s place %d rule %s" % (text[text.index("list") :], place, rules_said(good, [rule]))
 
 
 def prefix_swap(make):
@@ -311,8 +332,7 @@ def prefix_swap(make):
 
 
 def swapped_list(swap, list):
-    rules = [model.apply_rule(swap, rule) for rule in zip(*list)]
-    return tuple([rule[k] for rule in rules] for k in range(3))
+    return slices_of([model.apply_rule(swap, rule) for rule in words_and_decisions(*list)])
 
 
 def lookup_swapped(make):
@@ -329,7 +349,7 @@ def lookup_swapped(make):
     if make.chance(10):
         headers.append(make.bad_header(good))
     width = make.any_width(good)
-    return "lookup_swapped width %d list %s headers %s" % (width, list_text(good, list), numbers_said(headers))
+    return "lookup_swapped width %d list %s headers %s" % (width, list_said(good, *list), numbers_said(headers))
 
 
 def swaps(make):
@@ -338,7 +358,7 @@ def swaps(make):
     call = make.pick("apply_rule", "apply", "undo", "invert", "compose")
     text = call + " " + swap_text(first)
     if call == "apply_rule":
-        return text + " rule " + rules_text(good, make.any_rule(good, 10))
+        return text + " rule " + rules_said(good, [make.any_rule(good, 10)])
     if call == "compose":
         return text + " " + swap_text(make.any_swap(good if make.chance(80) else make.width()))
     if call == "invert":
@@ -348,18 +368,17 @@ def swaps(make):
 
 def runs(make):
     _, list, text = listed(make, most=30, percent=10)
-    (length,) = make.lengths(1, len(list[0]))
-    return "runs %s into %s" % (text, marks(40000, length))
+    return "runs %s into %s" % (text, marks(40000, make.room(len(list[2]))))
 
 
 def weave(make):
     _, list, text = listed(make, most=80 if make.chance(2) else 30, percent=10)
-    return "weave %s into %s" % (text, list_marks(make.lengths(3, len(list[0]))))
+    return "weave %s into %s" % (text, make.list_marks(len(list[2])))
 
 
 def like(make, width, list):
     """A list that differs little from this one: a rule gone, two exchanged, one put in or changed; or its weave."""
-    rules = [rule for rule in zip(*list)]
+    rules = words_and_decisions(*list)
     change = make.random.randrange(6)
     if change == 0 and rules:
         del rules[make.random.randrange(len(rules))]
@@ -372,19 +391,10 @@ def like(make, width, list):
         k = make.random.randrange(len(rules))
         rules[k] = rules[k][:2] + (make.decision(),)
     elif change == 4:
-        results = [[0] * len(rules) for _ in range(3)]
+        results = slices_of([(0, 0, 0)] * len(rules))
         kept, _, _ = model.weave(width, *list, *results)
-        rules = [rule for rule in zip(*results)][:kept]
-    return tuple([rule[k] for rule in rules] for k in range(3))
-
-
-def four_lengths(make):
-    """Lengths of a comparison's results: most often equal."""
-    room = make.pick(0, 1, 1, 2, 3, 5, 20, 20, 40, 40)
-    lengths = [room] * 4
-    if make.chance(8):
-        lengths[make.random.randrange(4)] += make.pick(1, 2)
-    return lengths
+        rules = words_and_decisions(*results)[:kept]
+    return slices_of(rules)
 
 
 def compare(make):
@@ -398,19 +408,24 @@ def compare(make):
     if make.chance(8):
         new = make.bad_list(good, new)
     width = make.any_width(good, 4)
-    text = "compare width %d old %s new %s" % (width, list_text(good, old), list_text(good, new))
-    return "%s start %d into %s" % (text, start, run_marks(four_lengths(make)))
+    text = "compare width %d old %s new %s" % (width, list_said(good, *old), list_said(good, *new))
+    return "%s start %d into %s" % (text, start, make.run_marks())
+
+
+def format_for(make, width):
+    """A format that has lists of this width."""
+    return make.pick(1, 2) if width <= 64 else 2
 
 
 def good_image(make):
-    """The width, counts, ids and rules of an image."""
+    """The format, width, counts, ids and rules of an image."""
     width = make.width()
     lists = make.pick(1, 1, 2, 3, 5, 16)
     ids = sorted(make.random.sample(range(make.pick(20, 65536)), lists))
-    counts = [make.some(6) for _ in range(lists)]
+    counts, list_of = [make.some(6) for _ in range(lists)], make.list_of
     if make.chance(1):
-        counts[0] = make.pick(1023, 1024)
-    return width, counts, ids, make.list_of(width, sum(counts))
+        counts[0], list_of = make.pick(1023, 1024), make.prefix_list
+    return format_for(make, width), width, counts, ids, list_of(width, sum(counts))
 
 
 def spot(make, image, k, width):
@@ -427,19 +442,21 @@ def bad_image(make, image):
     """One field damaged, a byte changed, or the end cut or lengthened."""
     image = bytearray(image)
     lists = image[2]
+    word = model.WORD.get(image[0], 16)
+    rule = 2 * word + 2
     k = make.random.randrange(lists)
     fault = make.random.randrange(14)
     if fault == 0:
-        image[0] = make.pick(0, 2, 255)
+        image[0] = make.pick(0, 1, 2, 3, 255)
     elif fault == 1:
-        image[1] = make.pick(0, 65, 255, max(1, image[1] - 1), image[1] + 1)
+        image[1] = make.pick(0, 64, 65, 128, 129, 255, max(1, image[1] - 1), (image[1] + 1) % 256)
     elif fault == 2:
         image[2] = make.pick(0, 17, 255, lists - 1, lists + 1)
     elif fault == 3:
         image[3] = make.pick(1, 255)
     elif fault == 4:
         at, size = spot(make, image, k, "offset")
-        put_number(image, at, size, model.number(image, at, size) + make.pick(-18, -1, 1, 18, 2**31, 2**32 - 1))
+        put_number(image, at, size, model.number(image, at, size) + make.pick(-rule, -1, 1, rule, 2**31, 2**32 - 1))
     elif fault == 5:
         at, size = spot(make, image, k, "count")
         put_number(image, at, size, make.pick(model.number(image, at, size) + make.pick(-1, 1, 2), 1024, 1025, 65535))
@@ -449,7 +466,7 @@ def bad_image(make, image):
     elif fault == 7:
         del image[make.random.randrange(len(image)) :]
     elif fault == 8:
-        image += bytes(make.pick(1, 1, 2, 17, 18, 19))
+        image += bytes(make.pick(1, 1, 2, 18, 34, rule - 1, rule, rule + 1))
     elif fault == 9:
         del image[-1:]
     elif fault == 10 and make.chance(5):
@@ -458,33 +475,33 @@ def bad_image(make, image):
         at = make.random.randrange(model.HEAD + model.ENTRY * lists, len(image))
         image[at] = make.pick(image[at] ^ (1 << make.random.randrange(8)), 255, 0)
         if fault == 13:
-            body = (at - model.HEAD - model.ENTRY * lists) // model.RULE
-            put_number(image, model.HEAD + model.ENTRY * lists + model.RULE * body + 16, 2, 65535)
+            start = model.HEAD + model.ENTRY * lists
+            put_number(image, start + (at - start) // rule * rule + 2 * word, 2, 65535)
     return bytes(image)
 
 
 def image(make):
-    width, counts, ids, rules = good_image(make)
-    image = model.image_bytes(width, counts, ids, zip(*rules))
+    format, width, counts, ids, rules = good_image(make)
+    image = model.image_bytes(format, width, counts, ids, words_and_decisions(*rules))
     for _ in range(make.pick(0, 0, 1, 1, 1, 2)):
         if len(image) >= model.HEAD and 1 <= image[2] <= model.MOST_LISTS:
             image = bad_image(make, image)
     which = make.random.randrange(len(ids))
     id = ids[which] if make.chance(80) else make.pick(0, 65535, ids[which] + 1, ids[which] - 1) % 65536
-    call = make.pick("check", "check", "width", "count", "entry", "body", "body_refusal", "read", "read", "read")
+    call = make.pick("check", "check", "format", "width", "count", "entry", "body", "body_refusal", "read", "read", "read")
     text = "%s image %s" % (call, numbers_said(image))
     if call == "entry":
         return text + " number %d" % make.pick(0, 1, 1, 2, len(ids), len(ids) + 1, 65535)
     if call in ("body", "body_refusal"):
         return text + " id %d" % id
     if call == "read":
-        return text + " id %d into %s" % (id, list_marks(make.lengths(3, counts[which])))
+        return text + " id %d into %s" % (id, make.list_marks(counts[which]))
     return text
 
 
-def bad_writing(make, width, counts, ids, rules):
+def bad_writing(make, format, width, counts, ids, rules):
     counts, ids = counts[:], ids[:]
-    fault = make.random.randrange(7)
+    fault = make.random.randrange(8)
     k = make.random.randrange(min(len(ids), len(counts)))
     if fault == 0:
         width = make.bad_width(width)
@@ -498,28 +515,34 @@ def bad_writing(make, width, counts, ids, rules):
         counts, ids = counts + [0] * 17, ids + list(range(65519 - 17, 65519))
     elif fault == 5:
         counts, ids, rules = [], [], ([], [], [])
+    elif fault == 6:
+        format = make.pick(0, 1, 3, 18, 255)
     else:
-        rules = make.bad_list(width if 1 <= width <= 64 else 64, rules)
-    return width, counts, ids, rules
+        rules = make.bad_list(width if 1 <= width <= WIDEST else WIDEST, rules)
+    return format, width, counts, ids, rules
 
 
 def large_writing(make):
     """Near and past the largest image, and lists that are too long."""
     width = make.width()
-    counts = make.pick([1024, 1024, 1024, 566], [1024, 1024, 1024, 567], [1024, 1025], [1000] * 4, [1024, 1024, 1024, 568])
-    rules = ([0] * sum(counts),) * 3
-    return width, counts, list(range(1, len(counts) + 1)), rules
+    format = format_for(make, width)
+    counts = make.pick([1024, 1025], [1000] * 4)
+    if make.chance(70):
+        full = [1024, 1024, 1024, 566] if format == 1 else [1024, 902]
+        counts = full[:-1] + [full[-1] + make.pick(0, 1, 2)]
+    return format, width, counts, list(range(1, len(counts) + 1)), slices_of([(0, 0, 0)] * sum(counts))
 
 
 def write(make):
-    width, counts, ids, rules = large_writing(make) if make.chance(1) and make.chance(50) else good_image(make)
+    parts = large_writing(make) if make.chance(1) and make.chance(50) else good_image(make)
     for _ in range(make.pick(0, 0, 1, 2)):
-        if ids and counts:
-            width, counts, ids, rules = bad_writing(make, width, counts, ids, rules)
-    size = model.HEAD + model.ENTRY * len(ids) + model.RULE * len(rules[0])
-    (length,) = make.lengths(1, size)
-    text = "write width %d list %s ids %s counts %s" % (width, list_text(width, rules), numbers_said(ids), numbers_said(counts))
-    return "%s into [%d times %d]" % (text, length, make.pick(0, 7, 238))
+        if parts[2] and parts[3]:
+            parts = bad_writing(make, *parts)
+    format, width, counts, ids, rules = parts
+    rule = model.rule_size(format if format in model.WORD else 2)
+    length = min(make.room(model.HEAD + model.ENTRY * len(ids) + rule * len(rules[2])), MOST_BYTES)
+    text = "write format %d width %d list %s" % (format, width, list_said(width, *rules))
+    return "%s ids %s counts %s into [%d times %d]" % (text, numbers_said(ids), numbers_said(counts), length, make.pick(0, 7, 238))
 
 
 def some_lists(make, width):
@@ -532,11 +555,13 @@ def some_lists(make, width):
     return lists
 
 
-def most_lists(make):
+def most_lists(make, format):
     """The lists of an image of 65,536 bytes, which is the largest; all of their rules are stars."""
-    counts = [1024, 1024, 1024, 2, make.random.randint(0, 564)]
-    counts.append(3638 - sum(counts))
-    return {make.random.randrange(10) + 10 * k: ([0] * count, [0] * count, [k] * count) for k, count in enumerate(counts)}
+    counts = [1024, 1024, 1024] if format == 1 else [1024, 0, 0]
+    left = (3638 if format == 1 else 1926) - sum(counts)
+    counts += [2, make.random.randint(0, left - 2)]
+    counts.append(left - sum(counts[3:]))
+    return {make.random.randrange(10) + 10 * k: slices_of([(0, 0, k)] * count) for k, count in enumerate(counts)}
 
 
 def changed_lists(make, width, lists):
@@ -552,23 +577,25 @@ def changed_lists(make, width, lists):
     return lists
 
 
-def image_of(width, lists):
+def image_of(format, width, lists):
     ids = sorted(lists)
-    return model.image_bytes(width, [len(lists[id][0]) for id in ids], ids, [rule for id in ids for rule in zip(*lists[id])])
+    rules = [rule for id in ids for rule in words_and_decisions(*lists[id])]
+    return model.image_bytes(format, width, [len(lists[id][2]) for id in ids], ids, rules)
 
 
 def two_images(make):
-    """A width, and two images' lists and bytes: most often of that width and without a fault."""
+    """A width, and two images' lists and bytes: most often of that width and without a fault, and each of any format."""
     width = make.width()
+    formats = [format_for(make, width), format_for(make, width)]
     old, new = some_lists(make, width), some_lists(make, width)
     if make.chance(70):
         new = changed_lists(make, width, old)
     elif make.chance(1):
-        old = most_lists(make)
-    images = [image_of(width, old), image_of(width, new)]
+        old = most_lists(make, formats[0])
+    images = [image_of(formats[0], width, old), image_of(formats[1], width, new)]
     if make.chance(8):
         other = make.width()
-        images[1] = image_of(other, {id: some_lists(make, other).popitem()[1] for id in new})
+        images[1] = image_of(format_for(make, other), other, {id: some_lists(make, other).popitem()[1] for id in new})
     for side in range(2):
         if make.chance(12):
             images[side] = bad_image(make, images[side])
@@ -589,14 +616,14 @@ def compare_lists(make):
     new_id = old_id if make.chance(70 if old_id in new else 10) else asked_id(make, new)
     start = make.pick(0, 0, make.any_header(width, old.get(old_id)), make.any_header(width, new.get(new_id)))
     text = "compare_lists old %s id %d new %s id %d" % (numbers_said(images[0]), old_id, numbers_said(images[1]), new_id)
-    return "%s start %d into %s" % (text, start, run_marks(four_lengths(make)))
+    return "%s start %d into %s" % (text, start, make.run_marks())
 
 
 def compare_first(make):
     width, old, new, images = two_images(make)
     start = make.pick(0, 0, make.any_header(width, old[min(old)]), make.any_header(width, new[min(new)]))
     text = "compare_first old %s new %s" % tuple(numbers_said(image) for image in images)
-    return "%s start %d into %s" % (text, start, run_marks(four_lengths(make)))
+    return "%s start %d into %s" % (text, start, make.run_marks())
 
 
 KINDS = {
@@ -628,8 +655,9 @@ def kinds_named(names):
 
 
 def main(seed, count, names):
-    most = 500 if "--small" in names else 100000
-    make, kinds = Maker(seed), kinds_named([name for name in names if name != "--small"])
+    small = "--small" in names
+    most = 1000 if small else 100000
+    make, kinds = Maker(seed, small), kinds_named([name for name in names if name != "--small"])
     print("# Random cases: seed %d." % seed)
     for _ in range(count):
         kind = make.random.choice(kinds)

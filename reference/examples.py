@@ -10,22 +10,27 @@ from model import Refused
 
 
 def words(rules):
+    """The rules of a list written with patterns: a care word, a value word and a decision each."""
+    return [(model.care_word(p), model.value_word(p), d) for p, d in rules]
+
+
+def slices(rules):
     """A list written with patterns, as the three slices."""
-    return [[model.care_word(p) for p, _ in rules], [model.value_word(p) for p, _ in rules], [d for _, d in rules]]
+    return model.slices_of(words(rules))
 
 
 def woven(width, rules):
-    out = [[9] * (len(rules) + 1) for _ in range(3)]
-    counts = model.weave(width, *words(rules), *out)
-    kept = counts[0]
-    rest = [x for slice in out for x in slice[kept : len(rules)]]
-    assert not any(rest) and all(slice[-1] == 9 for slice in out)
-    return model.rules_of(width, *[slice[:kept] for slice in out]), counts
+    mark = (9 + 8 * model.HALF, 7 + 6 * model.HALF, 5)
+    out = model.slices_of([mark] * (len(rules) + 1))
+    counts = model.weave(width, *slices(rules), *out)
+    after = model.words_and_decisions(*out)
+    assert after[counts[0] :] == [(0, 0, 0)] * (len(rules) - counts[0]) + [mark]
+    return [(model.pattern(width, c, v), d) for c, v, d in after[: counts[0]]], counts
 
 
 def cut(width, rules):
     sizes = [0] * len(rules)
-    return model.runs(width, *words(rules), sizes), sizes
+    return model.runs(width, *slices(rules), sizes), sizes
 
 
 def refusal(call, *arguments):
@@ -37,9 +42,9 @@ def refusal(call, *arguments):
 
 
 def compared(width, old, new, start=0, room=10):
-    results = [[0] * room for _ in range(4)]
-    count, more = model.compare(width, words(old), words(new), start, *results)
-    return list(zip(*results))[:count], more
+    first, last, old_answer, new_answer = [0] * 2 * room, [0] * 2 * room, [0] * room, [0] * room
+    count, more = model.compare(width, slices(old), slices(new), start, first, last, old_answer, new_answer)
+    return list(zip(model.words_of(first), model.words_of(last), old_answer, new_answer))[:count], more
 
 
 def all_seven(*patterns):
@@ -54,7 +59,7 @@ def examples():
     yield woven(4, rules) == ([("00**", 1), ("0***", 2), ("1***", 1)], (3, 1, 1))
     rules = [("0*", 1), ("*0", 2)]
     yield woven(2, rules) == (rules, (2, 0, 0)) and cut(2, rules) == (2, [1, 1])
-    yield refusal(model.prefix_swap, 2, *words(rules)) == (8, 1, 2)
+    yield refusal(model.prefix_swap, 2, *slices(rules)) == (8, 1, 2)
     yield woven(2, rules + [("00", 3)]) == (rules, (2, 1, 0)) and cut(2, rules + [("00", 3)])[0] == 2
     yield woven(2, all_seven("00", "01", "11"))[0] == all_seven("0*", "11")
     yield woven(2, all_seven("00", "01", "10", "11")) == (all_seven("**"), (1, 0, 3))
@@ -67,20 +72,27 @@ def examples():
     yield compared(3, old, new, start=3)[0][0] == (3, 3, 1, none)
     yield refusal(compared, 3, old, new, 8) == (6, 0, 0)
     yield compared(2, [("00", 1), ("01", 1)], []) == ([(0, 1, 1, none)], None)
-    yield compared(64, [("*" * 64, 1)], []) == ([(0, 2**64 - 1, 1, none)], None)
-    last = [("*" * 63 + "1", 5)]
-    yield compared(64, last, last) == ([], None)
-    yield refusal(model.invert, model.Swap([1, 1] + [0] * 62, 2)) == (9, 0, 0)
-    yield refusal(model.check_list, 3, [2], [1], [0]) == (4, 1, 1)
-    yield refusal(model.check_list, 0, [], [], []) == refusal(model.check_list, 65, [], [], []) == (1, 0, 0)
-    yield refusal(model.check_list, 8, *[[0] * 1024] * 3) is None and refusal(model.check_list, 8, *[[0] * 1025] * 3) == (3, 1, 0)
+    for width in (64, 128):
+        yield compared(width, [("*" * width, 1)], []) == ([(0, 2**width - 1, 1, none)], None)
+        last = [("*" * (width - 1) + "1", 5)]
+        yield compared(width, last, last) == ([], None)
+    yield refusal(model.invert, model.Swap([1, 1] + [0] * 126, 2)) == (9, 0, 0)
+    yield refusal(model.check_list, 3, [2, 0], [1, 0], [0]) == (4, 1, 1)
+    yield refusal(model.check_list, 0, [], [], []) == refusal(model.check_list, 129, [], [], []) == (1, 0, 0)
+    yield refusal(model.check_list, 65, [], [], []) is refusal(model.check_list, 128, [], [], []) is None
+    yield refusal(model.check_list, 8, *model.slices_of([(0, 0, 0)] * 1024)) is None
+    yield refusal(model.check_list, 8, *model.slices_of([(0, 0, 0)] * 1025)) == (3, 1, 0)
     image = bytes([1, 3, 1, 0, 12, 0, 0, 0, 1, 0, 1, 0, 4] + [0] * 15 + [1, 0])
     out = [7] * 31
-    yield model.write(3, [1], [1], [4], [0], [1], out) == 30 and bytes(out) == image + b"\7"
+    yield model.write(1, 3, [1], [1], *slices([("0**", 1)]), out) == 30 and bytes(out) == image + b"\7"
     yield refusal(model.check_image, image) is None
     yield refusal(model.check_image, image + b"\0") == (10, 0, 0) and refusal(model.check_image, image[:-1]) == (10, 1, 0)
-    other = image_of(3, [[("00*", 1), ("1*1", 1)]])
-    yield model.bench(image, other) == "width 3\n2 3 1 none\n5 5 none 1\n7 7 none 1\nruns 3\n"
+    for format in (1, 2):
+        other = image_of(format, 3, [[("00*", 1), ("1*1", 1)]])
+        yield model.bench(image, other) == "width 3\n2 3 1 none\n5 5 none 1\n7 7 none 1\nruns 3\n"
+    wide = bytes([2, 65, 1, 0, 12, 0, 0, 0, 1, 0, 1, 0] + [0] * 8 + [1] + [0] * 23 + [1, 0])
+    yield image_of(2, 65, [[("0" + "*" * 64, 1)]]) == wide and len(wide) == 46 and refusal(model.check_image, wide) is None
+    yield refusal(model.check_image, b"\1" + wide[1:]) == (1, 0, 0) and refusal(model.check_image, b"\3" + wide[1:]) == (11, 0, 0)
 
 
 def headers(width):
@@ -116,9 +128,9 @@ def joined(stretches):
                 yield header, a, b
 
 
-def image_of(width, lists):
+def image_of(format, width, lists):
     flat = [rule for rules in lists for rule in rules]
-    return model.image_bytes(width, [len(rules) for rules in lists], range(1, len(lists) + 1), zip(*words(flat)))
+    return model.image_bytes(format, width, [len(rules) for rules in lists], range(1, len(lists) + 1), words(flat))
 
 
 def bytes_of(path):

@@ -1,5 +1,5 @@
-"""images.py SEED COUNT: makes COUNT random pairs of images, alike, of unlike widths, or damaged, runs the bench program on each
-pair, and so the comparison of two images, and compares what it writes with the model's text. Last line: 'N pairs, M differ'."""
+"""images.py SEED COUNT: makes COUNT random pairs of images, alike, of unlike widths or formats, or damaged, runs the bench program on
+each pair, and so the comparison of two images, and compares what it writes with the model's text. Last line: 'N pairs, M differ'."""
 import collections
 import os
 import subprocess
@@ -12,23 +12,23 @@ import model
 RUN = os.path.join(os.path.dirname(os.path.dirname(os.path.abspath(__file__))), "scripts", "run-program")
 
 
-def image_of(width, counts, ids, rules):
+def image_of(format, width, counts, ids, rules):
     out = [0] * 65536
-    return bytes(out[: model.write(width, counts, ids, *rules, out)])
+    return bytes(out[: model.write(format, width, counts, ids, *model.slices_of(rules), out)])
 
 
 def pair(make):
-    width, counts, ids, rules = cases.good_image(make)
-    old = image_of(width, counts, ids, rules)
-    first = tuple(list(column[: counts[0]]) for column in rules)
-    other = cases.like(make, width, first)
-    later = tuple(list(column[counts[0] :]) for column in rules)
-    changed = tuple(list(a) + list(b) for a, b in zip(other, later))
-    if len(other[0]) > model.LONGEST:
-        other, changed = first, rules
-    new = image_of(width, [len(other[0])] + counts[1:], ids, changed)
+    format, width, counts, ids, slices = cases.good_image(make)
+    rules = model.words_and_decisions(*slices)
+    old = image_of(format, width, counts, ids, rules)
+    first, later = rules[: counts[0]], rules[counts[0] :]
+    other = model.words_and_decisions(*cases.like(make, width, model.slices_of(first)))
+    if len(other) > model.LONGEST:
+        other = first
+    new = image_of(cases.format_for(make, width), width, [len(other)] + counts[1:], ids, other + later)
     if make.chance(12):
-        new = image_of(*cases.good_image(make))
+        format, width, counts, ids, slices = cases.good_image(make)
+        new = image_of(format, width, counts, ids, model.words_and_decisions(*slices))
     if make.chance(12):
         old = cases.bad_image(make, old)
     if make.chance(12):

@@ -4,16 +4,20 @@ This file is an independent reading of the rules that the library is built to. I
 words with masks, but patterns written out as text, place 1 first, with a character of "01*" for each place. A reader can
 hold it against the rules line by line. It is slow, and that is no fault here.
 
-Numbers handed in are any numbers that fit the call's types; a slice is a Python list (bytes for an image). A call that
-refuses raises Refused and has then changed no list that it was lent.
+Numbers handed in are any numbers that fit the call's types; a slice is a Python list (bytes for an image). A word or a header
+is one number. In a slice it is two, each below HALF, the low half first: so the care slice and the value slice of a list have
+two numbers to a rule, and the decisions have one. A call that refuses raises Refused and has then changed no list that it was
+lent.
 """
 
-WIDEST = 64  # places of a pattern
+WIDEST = 128  # places of a pattern
+HALF = 2**64  # a slice of words has numbers below this, two to a word
 LONGEST = 1024  # rules of a list
 NO_MATCH = 65535  # "no match" in slices of numbers; no rule may decide it
 LARGEST_IMAGE = 65536  # bytes
 MOST_LISTS = 16  # lists of an image
-HEAD, ENTRY, RULE = 4, 8, 18  # bytes of an image's head, of an entry of its contents, and of a rule
+HEAD, ENTRY = 4, 8  # bytes of an image's head, and of an entry of its contents
+WORD = {1: 8, 2: 16}  # the formats of images, and the bytes of a word in each
 
 
 class Refused(Exception):
@@ -21,6 +25,39 @@ class Refused(Exception):
 
     def __init__(self, number, list=0, rule=0):
         self.number, self.list, self.rule = number, list, rule
+
+
+# Slices of words. -------------------------------------------------------------------------------------------------------
+
+
+def words_of(slice):
+    """The words of a slice; a number that is left over at its end is no word."""
+    return [low + HALF * high for low, high in zip(slice[0::2], slice[1::2])]
+
+
+def halves_of(words):
+    """The words as they stand in a slice."""
+    return [half for word in words for half in (word % HALF, word // HALF)]
+
+
+def put_words(slice, k, words):
+    """Puts words into the slice from its word k (from 0) on."""
+    slice[2 * k : 2 * (k + len(words))] = halves_of(words)
+
+
+def belong_together(care, value, decision):
+    """Two numbers of the care slice and of the value slice for each decision."""
+    return len(care) == len(value) == 2 * len(decision)
+
+
+def words_and_decisions(care, value, decision):
+    """The rules of three slices: a care word, a value word and a decision each."""
+    return list(zip(words_of(care), words_of(value), decision))
+
+
+def slices_of(rules):
+    """Such rules as three slices."""
+    return halves_of(rule[0] for rule in rules), halves_of(rule[1] for rule in rules), [rule[2] for rule in rules]
 
 
 # Patterns. ------------------------------------------------------------------------------------------------------------
@@ -68,7 +105,7 @@ def distance_text(a, b):
 
 def rules_of(width, care, value, decision):
     """The list as pairs of a pattern and a decision."""
-    return [(pattern(width, c, v), d) for c, v, d in zip(care, value, decision)]
+    return [(pattern(width, c, v), d) for c, v, d in words_and_decisions(care, value, decision)]
 
 
 def answer(rules, header):
@@ -97,12 +134,12 @@ def check_bare_rule(width, list, number, care, value, decision):
 
 def check_bare_list(width, list, care, value, decision):
     """2, 3, then the rules from the top."""
-    if not len(care) == len(value) == len(decision):
+    if not belong_together(care, value, decision):
         raise Refused(2)
-    if len(care) > LONGEST:
+    if len(decision) > LONGEST:
         raise Refused(3, list, 0)
-    for k in range(len(care)):
-        check_bare_rule(width, list, k + 1, care[k], value[k], decision[k])
+    for k, rule in enumerate(words_and_decisions(care, value, decision)):
+        check_bare_rule(width, list, k + 1, *rule)
 
 
 def check_header(width, header):
@@ -152,18 +189,19 @@ def distance(width, a, b):
 
 def rule_at(care, value, decision, k):
     """The rule at position k (from 0); zeros where one of the slices has no such position."""
-    if k < len(care) and k < len(value) and k < len(decision):
-        return care[k], value[k], decision[k]
-    return 0, 0, 0
+    rules = words_and_decisions(care, value, decision)
+    return rules[k] if k < len(rules) else (0, 0, 0)
 
 
 def put_rule(care, value, decision, k, rule):
     """The rule is put at position k; nothing happens where one of the slices has no such position."""
-    if k < len(care) and k < len(value) and k < len(decision):
-        care[k], value[k], decision[k] = rule
+    if k < len(words_and_decisions(care, value, decision)):
+        put_words(care, k, [rule[0]])
+        put_words(value, k, [rule[1]])
+        decision[k] = rule[2]
 
 
-# Bit-swaps. A swap is its 64 places and its width. ----------------------------------------------------------------------
+# Bit-swaps. A swap is its 128 places and its width. ---------------------------------------------------------------------
 
 
 class Swap:
@@ -304,7 +342,7 @@ def weave_run(run):
 def runs(width, care, value, decision, sizes):
     """The number of runs; each run's number of rules is put into sizes, and 0 up to the number of rules."""
     check_list(width, care, value, decision)
-    count = len(care)
+    count = len(decision)
     if len(sizes) < count:
         raise Refused(7)
     lengths = [len(run) for run in cut(rules_of(width, care, value, decision))]
@@ -315,18 +353,18 @@ def runs(width, care, value, decision, sizes):
 def weave(width, care, value, decision, out_care, out_value, out_decision):
     """Entries kept, rules dropped and merges made; the entries are put into the results, and 0 up to the number of rules."""
     check_list(width, care, value, decision)
-    if not len(out_care) == len(out_value) == len(out_decision):
+    if not belong_together(out_care, out_value, out_decision):
         raise Refused(2)
-    count = len(care)
-    if len(out_care) < count:
+    count = len(decision)
+    if len(out_decision) < count:
         raise Refused(7)
     kept, dropped, merges = [], 0, 0
     for run in cut(rules_of(width, care, value, decision)):
         entries, run_dropped, run_merges = weave_run(run)
         kept, dropped, merges = kept + entries, dropped + run_dropped, merges + run_merges
     rest = [0] * (count - len(kept))
-    out_care[:count] = [care_word(text) for text, _ in kept] + rest
-    out_value[:count] = [value_word(text) for text, _ in kept] + rest
+    put_words(out_care, 0, [care_word(text) for text, _ in kept] + rest)
+    put_words(out_value, 0, [value_word(text) for text, _ in kept] + rest)
     out_decision[:count] = [decision for _, decision in kept] + rest
     return len(kept), dropped, merges
 
@@ -366,7 +404,8 @@ def settled(rules):
 
 class Tree:
     """Both lists' answers by the first place, then by the second, and so on; equal parts are made once. A part in which both
-    answers are settled is a pair of answers, any other part is its two halves and whether the answers ever differ in it."""
+    answers are settled is a pair of answers, any other part is its two halves and whether the answers ever differ in it. Of a
+    part in which both lists have the same rules, no more is said than that they never do."""
 
     def __init__(self):
         self.made = {}
@@ -377,6 +416,8 @@ class Tree:
         return self.made[old, new]
 
     def make(self, old, new):
+        if old == new:
+            return (NO_MATCH, NO_MATCH, False)
         a, b = settled(old), settled(new)
         if a is not None and b is not None:
             return (a, b, a != b)
@@ -426,13 +467,14 @@ def differences(width, old, new, start):
 
 
 def compare(width, old, new, start, first, last, old_answer, new_answer):
-    """The number of runs put into the results, and the first header of the next run, or None where there is none."""
+    """The number of runs put into the results, and the first header of the next run, or None where there is none. The answers
+    have one number to a run, and the headers two."""
     check_width(width)
     check_bare_list(width, 1, *old)
     check_bare_list(width, 2, *new)
     check_header(width, start)
-    room = len(first)
-    if not room == len(last) == len(old_answer) == len(new_answer):
+    room = len(old_answer)
+    if not len(first) == len(last) == 2 * room or len(new_answer) != room:
         raise Refused(2)
     if room < 1:
         raise Refused(7)
@@ -440,7 +482,9 @@ def compare(width, old, new, start, first, last, old_answer, new_answer):
     for run in differences(width, rules_of(width, *old), rules_of(width, *new), start):
         if count == room:
             return count, run[0]
-        first[count], last[count], old_answer[count], new_answer[count] = run
+        put_words(first, count, [run[0]])
+        put_words(last, count, [run[1]])
+        old_answer[count], new_answer[count] = run[2:]
         count += 1
     return count, None
 
@@ -459,13 +503,25 @@ def entry_at(image, k):
     return number(image, at, 4), number(image, at + 4, 2), number(image, at + 6, 2)
 
 
+def rule_size(format):
+    """The bytes of a rule: two words and a decision."""
+    return 2 * WORD[format] + 2
+
+
+def check_image_width(format, width):
+    """1: a format has as many places as its words have bits."""
+    if not 1 <= width <= 8 * WORD[format]:
+        raise Refused(1)
+
+
 def rule_in(image, at):
-    return number(image, at, 8), number(image, at + 8, 8), number(image, at + 16, 2)
+    word = WORD[image[0]]
+    return number(image, at, word), number(image, at + word, word), number(image, at + 2 * word, 2)
 
 
 def body_rules(image, entry):
     offset, count, _ = entry
-    return [rule_in(image, offset + RULE * k) for k in range(count)]
+    return [rule_in(image, offset + rule_size(image[0]) * k) for k in range(count)]
 
 
 def entries(image):
@@ -478,9 +534,9 @@ def check_image(image):
     size = len(image)
     if size < HEAD or size > LARGEST_IMAGE:
         raise Refused(10)
-    if image[0] != 1 or image[3] != 0:
+    if image[0] not in WORD or image[3] != 0:
         raise Refused(11)
-    check_width(image[1])
+    check_image_width(image[0], image[1])
     lists = image[2]
     if not 1 <= lists <= MOST_LISTS or HEAD + ENTRY * lists > size:
         raise Refused(12)
@@ -492,7 +548,7 @@ def check_image(image):
             raise Refused(14, k + 1, 0)
         if count > LONGEST:
             raise Refused(3, k + 1, 0)
-        end, before = end + RULE * count, id
+        end, before = end + rule_size(image[0]) * count, id
         if end > size:
             raise Refused(10, k + 1, 0)
     if end != size:
@@ -500,6 +556,11 @@ def check_image(image):
     for k, entry in enumerate(entries(image)):
         for number_of, rule in enumerate(body_rules(image, entry)):
             check_bare_rule(image[1], k + 1, number_of + 1, *rule)
+
+
+def image_format(image):
+    check_image(image)
+    return image[0]
 
 
 def image_width(image):
@@ -525,39 +586,42 @@ def find(image, id):
 def body(image, id):
     """Where the body of the list with this id stands: its first byte's offset and its number of bytes."""
     offset, count, _ = find(image, id)
-    return offset, RULE * count
+    return offset, rule_size(image[0]) * count
 
 
 def read(image, id, care, value, decision):
     """The number of rules read into the slices; later places stay."""
     entry = find(image, id)
-    if not len(care) == len(value) == len(decision):
+    if not belong_together(care, value, decision):
         raise Refused(2)
     rules = body_rules(image, entry)
-    if len(care) < len(rules):
+    if len(decision) < len(rules):
         raise Refused(7)
     for k, rule in enumerate(rules):
-        care[k], value[k], decision[k] = rule
+        put_rule(care, value, decision, k, rule)
     return len(rules)
 
 
-def image_bytes(width, counts, ids, rules):
+def image_bytes(format, width, counts, ids, rules):
     """The bytes of the image that carries these lists, whose rules follow each other."""
-    head = bytes([1, width, len(ids), 0])
+    word = WORD[format]
+    head = bytes([format, width, len(ids), 0])
     contents, bodies = b"", b""
     offset = HEAD + ENTRY * len(ids)
     for count, id in zip(counts, ids):
         contents += offset.to_bytes(4, "little") + count.to_bytes(2, "little") + id.to_bytes(2, "little")
-        offset += RULE * count
+        offset += rule_size(format) * count
     for care, value, decision in rules:
-        bodies += care.to_bytes(8, "little") + value.to_bytes(8, "little") + decision.to_bytes(2, "little")
+        bodies += care.to_bytes(word, "little") + value.to_bytes(word, "little") + decision.to_bytes(2, "little")
     return head + contents + bodies
 
 
-def write(width, counts, ids, care, value, decision, out):
-    """The image's length; out is a list of bytes, of which only the image's are changed."""
-    check_width(width)
-    if len(counts) != len(ids) or not len(care) == len(value) == len(decision) or sum(counts) != len(care):
+def write(format, width, counts, ids, care, value, decision, out):
+    """The image's length; out is a list of bytes, of which only the image's are changed. 11 for the format comes first of all."""
+    if format not in WORD:
+        raise Refused(11)
+    check_image_width(format, width)
+    if len(counts) != len(ids) or not belong_together(care, value, decision) or sum(counts) != len(decision):
         raise Refused(2)
     if not 1 <= len(ids) <= MOST_LISTS:
         raise Refused(12)
@@ -566,17 +630,18 @@ def write(width, counts, ids, care, value, decision, out):
             raise Refused(13, k + 1, 0)
         if counts[k] > LONGEST:
             raise Refused(3, k + 1, 0)
+    rules = words_and_decisions(care, value, decision)
     at = 0
     for k in range(len(ids)):
         for rule in range(counts[k]):
-            check_bare_rule(width, k + 1, rule + 1, care[at], value[at], decision[at])
+            check_bare_rule(width, k + 1, rule + 1, *rules[at])
             at += 1
-    size = HEAD + ENTRY * len(ids) + RULE * len(care)
+    size = HEAD + ENTRY * len(ids) + rule_size(format) * len(rules)
     if size > LARGEST_IMAGE:
         raise Refused(10)
     if len(out) < size:
         raise Refused(7)
-    out[:size] = image_bytes(width, counts, ids, zip(care, value, decision))
+    out[:size] = image_bytes(format, width, counts, ids, rules)
     return size
 
 
@@ -584,15 +649,14 @@ def write(width, counts, ids, care, value, decision, out):
 
 
 def check_widths(old_image, new_image):
-    """16, of two images that passed their checks."""
+    """16, of two images that passed their checks. Their formats may differ."""
     if old_image[1] != new_image[1]:
         raise Refused(16)
 
 
 def list_of(image, entry):
     """The rules of a contents entry as three slices."""
-    rules = body_rules(image, entry)
-    return tuple([rule[k] for rule in rules] for k in range(3))
+    return slices_of(body_rules(image, entry))
 
 
 def compare_lists(old_image, old_id, new_image, new_id, start, *results):
@@ -617,14 +681,14 @@ def compare_first(old_image, new_image, start, *results):
 
 def bench(old_image, new_image, most=1000):
     """The text that the bench program writes for two images."""
-    results = [[0] * most for _ in range(4)]
+    first, last, old_answer, new_answer = [0] * 2 * most, [0] * 2 * most, [0] * most, [0] * most
     try:
-        count, more = compare_first(old_image, new_image, 0, *results)
+        count, more = compare_first(old_image, new_image, 0, first, last, old_answer, new_answer)
     except Refused as refused:
         return "refused %d\n" % refused.number
     named = lambda number: "none" if number == NO_MATCH else str(number)
     lines = ["width %d" % old_image[1]]
-    for first, last, a, b in list(zip(*results))[:count]:
-        lines.append("%d %d %s %s" % (first, last, named(a), named(b)))
+    for begin, end, a, b in list(zip(words_of(first), words_of(last), old_answer, new_answer))[:count]:
+        lines.append("%d %d %s %s" % (begin, end, named(a), named(b)))
     lines.append("runs %d" % count if more is None else "more %d" % more)
     return "".join(line + "\n" for line in lines)

@@ -7,27 +7,37 @@ use std::fmt;
 use std::io::{BufWriter, Write};
 
 struct List {
-    care: Vec<u64>,
-    value: Vec<u64>,
+    care: Vec<u128>,
+    value: Vec<u128>,
     decision: Vec<u16>,
+}
+
+// A word of an image: 8 bytes in format 1, and 16 in format 2.
+fn word(bytes: &[u8]) -> u128 {
+    match bytes.len() {
+        8 => u64::from_le_bytes(bytes.try_into().unwrap()) as u128,
+        _ => u128::from_le_bytes(bytes.try_into().unwrap()),
+    }
 }
 
 // The width of an image and its first list.
 fn load(path: &str) -> (u32, List) {
     let bytes = std::fs::read(path).unwrap();
+    let size = if bytes[0] == 1 { 8 } else { 16 };
     let from = u32::from_le_bytes(bytes[4..8].try_into().unwrap()) as usize;
     let count = u16::from_le_bytes(bytes[8..10].try_into().unwrap()) as usize;
+    let rule_size = 2 * size + 2;
     let mut list = List { care: vec![], value: vec![], decision: vec![] };
-    for rule in bytes[from..from + 18 * count].chunks(18) {
-        list.care.push(u64::from_le_bytes(rule[0..8].try_into().unwrap()));
-        list.value.push(u64::from_le_bytes(rule[8..16].try_into().unwrap()));
-        list.decision.push(u16::from_le_bytes(rule[16..18].try_into().unwrap()));
+    for rule in bytes[from..from + rule_size * count].chunks(rule_size) {
+        list.care.push(word(&rule[..size]));
+        list.value.push(word(&rule[size..2 * size]));
+        list.decision.push(u16::from_le_bytes(rule[2 * size..].try_into().unwrap()));
     }
     (bytes[1] as u32, list)
 }
 
 // The rules of `live` that meet the cube, up to the first that covers it, onto the stack.
-fn narrow(list: &List, stack: &mut Vec<u16>, live: std::ops::Range<usize>, care: u64, value: u64) -> std::ops::Range<usize> {
+fn narrow(list: &List, stack: &mut Vec<u16>, live: std::ops::Range<usize>, care: u128, value: u128) -> std::ops::Range<usize> {
     let from = stack.len();
     for at in live {
         let i = stack[at];
@@ -42,7 +52,7 @@ fn narrow(list: &List, stack: &mut Vec<u16>, live: std::ops::Range<usize>, care:
     from..stack.len()
 }
 
-fn answer(list: &List, live: &[u16], miss: u16, header: u64) -> u16 {
+fn answer(list: &List, live: &[u16], miss: u16, header: u128) -> u16 {
     for &i in live {
         if header & list.care[i as usize] == list.value[i as usize] {
             return list.decision[i as usize];
@@ -52,7 +62,7 @@ fn answer(list: &List, live: &[u16], miss: u16, header: u64) -> u16 {
 }
 
 // How many of the first rules of both sides leave the same outside the cube.
-fn alike(old: &List, new: &List, ol: &[u16], nl: &[u16], care: u64) -> (usize, bool) {
+fn alike(old: &List, new: &List, ol: &[u16], nl: &[u16], care: u128) -> (usize, bool) {
     let mut p = 0;
     while p < ol.len() && p < nl.len() {
         let (i, j) = (ol[p] as usize, nl[p] as usize);
@@ -68,7 +78,7 @@ fn alike(old: &List, new: &List, ol: &[u16], nl: &[u16], care: u64) -> (usize, b
 }
 
 // Whether the rules of one side from place p on, up to one that covers the cube, all decide d, or a miss counts as d.
-fn only(list: &List, live: &[u16], miss: u16, p: usize, care: u64, d: u16) -> bool {
+fn only(list: &List, live: &[u16], miss: u16, p: usize, care: u128, d: u16) -> bool {
     for &i in &live[p..] {
         if list.decision[i as usize] != d {
             return false;
@@ -81,7 +91,7 @@ fn only(list: &List, live: &[u16], miss: u16, p: usize, care: u64, d: u16) -> bo
 }
 
 // Whether both sides give every header of the cube the same decision from place p on.
-fn settled(old: &List, new: &List, ol: &[u16], nl: &[u16], om: u16, nm: u16, p: usize, care: u64) -> bool {
+fn settled(old: &List, new: &List, ol: &[u16], nl: &[u16], om: u16, nm: u16, p: usize, care: u128) -> bool {
     if p == ol.len() {
         return only(new, nl, nm, p, care, om);
     }
@@ -93,7 +103,7 @@ fn settled(old: &List, new: &List, ol: &[u16], nl: &[u16], om: u16, nm: u16, p: 
 }
 
 // Adds the rules that care to the count of each place: bit p of counts[k] is bit k of the count of place p.
-fn tally(list: &List, live: &[u16], places: u64, counts: &mut [u64; 12]) {
+fn tally(list: &List, live: &[u16], places: u128, counts: &mut [u128; 12]) {
     for &i in live {
         let mut carry = list.care[i as usize] & places;
         for count in counts.iter_mut() {
@@ -107,7 +117,7 @@ fn tally(list: &List, live: &[u16], places: u64, counts: &mut [u64; 12]) {
     }
 }
 
-fn wanted(old: &List, new: &List, ol: &[u16], nl: &[u16], p: usize, care: u64) -> u64 {
+fn wanted(old: &List, new: &List, ol: &[u16], nl: &[u16], p: usize, care: u128) -> u128 {
     let mut places = 0;
     if p < ol.len() {
         places |= old.care[ol[p] as usize] & !care;
@@ -126,7 +136,7 @@ fn wanted(old: &List, new: &List, ol: &[u16], nl: &[u16], p: usize, care: u64) -
         }
         return places;
     }
-    let mut fewest = 65;
+    let mut fewest = 129;
     for &i in &ol[..p] {
         let c = old.care[i as usize] & !care;
         if c != 0 && c.count_ones() < fewest {
@@ -138,7 +148,7 @@ fn wanted(old: &List, new: &List, ol: &[u16], nl: &[u16], p: usize, care: u64) -
 }
 
 // The places at which a header that some rule matches may have another value than h; all, as soon as `top` is one of them.
-fn loose(list: &List, live: &[u16], h: u64, top: u64) -> u64 {
+fn loose(list: &List, live: &[u16], h: u128, top: u128) -> u128 {
     let mut places = 0;
     for &i in live {
         places |= !list.care[i as usize] | (list.value[i as usize] ^ h);
@@ -150,7 +160,7 @@ fn loose(list: &List, live: &[u16], h: u64, top: u64) -> u64 {
 }
 
 // The places at which a difference may have another value than the difference h: all, where a miss of both is a difference.
-fn loose_places(old: &List, new: &List, ol: &[u16], nl: &[u16], om: u16, nm: u16, h: u64, k: u32) -> u64 {
+fn loose_places(old: &List, new: &List, ol: &[u16], nl: &[u16], om: u16, nm: u16, h: u128, k: u32) -> u128 {
     if om != nm {
         return !0;
     }
@@ -163,16 +173,16 @@ fn loose_places(old: &List, new: &List, ol: &[u16], nl: &[u16], om: u16, nm: u16
 }
 
 // 2^k - 1: the k lowest bits.
-fn ones(k: u32) -> u64 {
-    if k == 64 {
+fn ones(k: u32) -> u128 {
+    if k == 128 {
         return !0;
     }
     (1 << k) - 1
 }
 
 struct Run {
-    first: u64,
-    last: u64,
+    first: u128,
+    last: u128,
     old: u16,
     new: u16,
 }
@@ -181,7 +191,7 @@ struct Run {
 // answers the same everywhere is asked of its list and an empty one.
 struct Search {
     stack: Vec<u16>,
-    start: u64,
+    start: u128,
     runs: Vec<Run>,
     blocks: u64,
     cubes: u64,
@@ -197,10 +207,10 @@ impl Search {
         nl: std::ops::Range<usize>,
         om: u16,
         nm: u16,
-        care: u64,
-        value: u64,
+        care: u128,
+        value: u128,
         seen: bool,
-    ) -> Option<u64> {
+    ) -> Option<u128> {
         self.cubes += 1;
         let top = self.stack.len();
         let ol = narrow(old, &mut self.stack, ol, care, value);
@@ -218,10 +228,10 @@ impl Search {
         nl: std::ops::Range<usize>,
         om: u16,
         nm: u16,
-        care: u64,
-        value: u64,
+        care: u128,
+        value: u128,
         seen: bool,
-    ) -> Option<u64> {
+    ) -> Option<u128> {
         let (o, n) = (&self.stack[ol.clone()], &self.stack[nl.clone()]);
         let (p, covered) = alike(old, new, o, n, care);
         if covered {
@@ -237,7 +247,7 @@ impl Search {
             return None;
         }
         let want = wanted(old, new, o, n, p, care);
-        let place = if want != 0 { 1 << (63 - want.leading_zeros()) } else { 1 << (!care).trailing_zeros() };
+        let place = if want != 0 { 1 << (127 - want.leading_zeros()) } else { 1 << (!care).trailing_zeros() };
         let low = self.differs(old, new, ol.clone(), nl.clone(), om, nm, care | place, value, true);
         if low.is_some() {
             return low;
@@ -246,7 +256,7 @@ impl Search {
     }
 
     // Whether one side answers a, as it does at the cube's value, on the whole cube.
-    fn steady(&mut self, list: &List, live: std::ops::Range<usize>, miss: u16, care: u64, value: u64, a: u16) -> bool {
+    fn steady(&mut self, list: &List, live: std::ops::Range<usize>, miss: u16, care: u128, value: u128, a: u16) -> bool {
         if only(list, &self.stack[live.clone()], miss, 0, care, a) {
             return true;
         }
@@ -263,7 +273,7 @@ impl Search {
         nl: std::ops::Range<usize>,
         om: u16,
         nm: u16,
-        base: u64,
+        base: u128,
         k: u32,
     ) -> Option<(u16, u16)> {
         if base < self.start {
@@ -298,10 +308,10 @@ impl Search {
         nl: std::ops::Range<usize>,
         om: u16,
         nm: u16,
-        base: u64,
+        base: u128,
         k: u32,
-        hint: Option<u64>,
-    ) -> Result<(), u64> {
+        hint: Option<u128>,
+    ) -> Result<(), u128> {
         if base + ones(k) < self.start {
             return Ok(());
         }
@@ -325,10 +335,10 @@ impl Search {
         nl: std::ops::Range<usize>,
         om: u16,
         nm: u16,
-        base: u64,
+        base: u128,
         k: u32,
-        h: u64,
-    ) -> Result<(), u64> {
+        h: u128,
+    ) -> Result<(), u128> {
         self.blocks += 1;
         let top = self.stack.len();
         let ol = narrow(old, &mut self.stack, ol, !ones(k), base);
@@ -347,10 +357,10 @@ impl Search {
         nl: std::ops::Range<usize>,
         om: u16,
         nm: u16,
-        base: u64,
+        base: u128,
         k: u32,
-        h: u64,
-    ) -> Result<(), u64> {
+        h: u128,
+    ) -> Result<(), u128> {
         if let Some((a, b)) = self.answers(old, new, ol.clone(), nl.clone(), om, nm, base, k) {
             return self.piece(Run { first: base, last: base + ones(k), old: a, new: b });
         }
@@ -358,7 +368,7 @@ impl Search {
             return Ok(());
         }
         let places = loose_places(old, new, &self.stack[ol.clone()], &self.stack[nl.clone()], om, nm, h, k);
-        let size = 64 - (places & ones(k)).leading_zeros();
+        let size = 128 - (places & ones(k)).leading_zeros();
         if size < k {
             return self.part(old, new, ol, nl, om, nm, h & !ones(size), size, Some(h));
         }
@@ -369,7 +379,7 @@ impl Search {
     }
 
     // Lists a piece: it lengthens the last run, or is a run of its own.
-    fn piece(&mut self, piece: Run) -> Result<(), u64> {
+    fn piece(&mut self, piece: Run) -> Result<(), u128> {
         if let Some(run) = self.runs.last_mut() {
             if run.last + 1 == piece.first && run.old == piece.old && run.new == piece.new {
                 run.last = piece.last;

@@ -5,6 +5,7 @@ use crate::image_calls;
 use crate::names;
 use crate::rules_calls;
 use crate::slices;
+use crate::source::Taken;
 use crate::source::after;
 use crate::source::named;
 use crate::source::part;
@@ -57,24 +58,34 @@ fn after_name(call: usize, s: &[u8], from: usize) -> usize {
     after(s, from, names::LIST)
 }
 
+// `write` has a `format` first.
+fn format_of(call: usize, s: &[u8], from: usize) -> Taken {
+    if call == names::WRITE {
+        return named(s, from, names::FORMAT, 255);
+    }
+    Taken { value: 0, at: from }
+}
+
 // The calls that have `width` and then a list.
 fn on_list(call: usize, s: &[u8], from: usize, w: &[u8], to: usize) -> usize {
-    let mut care_space = [0u64; 4112];
-    let mut value_space = [0u64; 4112];
+    let mut care_space = [0u64; 8224];
+    let mut value_space = [0u64; 8224];
     let mut decision_space = [0u16; 4112];
     let care: &mut [u64] = &mut care_space;
     let value: &mut [u64] = &mut value_space;
     let decision: &mut [u16] = &mut decision_space;
-    let width = named(s, from, names::WIDTH, 4294967295);
+    let format = format_of(call, s, from);
+    let width = named(s, format.at, names::WIDTH, 4294967295);
     let l = given::list(s, after_name(call, s, width.at), care, value, decision);
     with_list(
         call,
         s,
         l.at,
+        (format.value % 256) as u8,
         (width.value % 4294967296) as u32,
-        slices::words(care, l.cares),
-        slices::words(value, l.values),
-        slices::halves(decision, l.decisions),
+        slices::numbers(care, l.cares),
+        slices::numbers(value, l.values),
+        slices::shorts(decision, l.decisions),
         w,
         to,
     )
@@ -84,6 +95,7 @@ fn with_list(
     call: usize,
     s: &[u8],
     at: usize,
+    format: u8,
     width: u32,
     care: &[u64],
     value: &[u64],
@@ -98,7 +110,7 @@ fn with_list(
         return weaving_calls::on_list(call, s, at, width, care, value, decision, w, to);
     }
     if call == names::WRITE {
-        return image_calls::write(s, at, width, care, value, decision, w, to);
+        return image_calls::write(s, at, format, width, care, value, decision, w, to);
     }
     if call == names::COMPARE {
         return compare_calls::on_list(s, at, width, care, value, decision, w, to);

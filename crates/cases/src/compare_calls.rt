@@ -6,6 +6,7 @@ use crate::show;
 use crate::slices;
 use crate::source::after;
 use crate::source::ended;
+use crate::source::header;
 use crate::source::is_bad;
 use crate::source::named;
 use rules::Wire;
@@ -21,8 +22,8 @@ pub fn on_list(
     w: &[u8],
     to: usize,
 ) -> usize {
-    let mut care_space = [0u64; 4112];
-    let mut value_space = [0u64; 4112];
+    let mut care_space = [0u64; 8224];
+    let mut value_space = [0u64; 8224];
     let mut decision_space = [0u16; 4112];
     let care: &mut [u64] = &mut care_space;
     let value: &mut [u64] = &mut value_space;
@@ -35,9 +36,9 @@ pub fn on_list(
         old_care,
         old_value,
         old_decision,
-        slices::words(care, l.cares),
-        slices::words(value, l.values),
-        slices::halves(decision, l.decisions),
+        slices::numbers(care, l.cares),
+        slices::numbers(value, l.values),
+        slices::shorts(decision, l.decisions),
         w,
         to,
     )
@@ -57,24 +58,25 @@ fn on_lists(
     w: &[u8],
     to: usize,
 ) -> usize {
-    let mut first_space = [0u64; 4112];
-    let mut last_space = [0u64; 4112];
+    let mut first_space = [0u64; 8224];
+    let mut last_space = [0u64; 8224];
     let mut old_space = [0u16; 4112];
     let mut new_space = [0u16; 4112];
     let all_first: &mut [u64] = &mut first_space;
     let all_last: &mut [u64] = &mut last_space;
     let all_old: &mut [u16] = &mut old_space;
     let all_new: &mut [u16] = &mut new_space;
-    let start = named(s, from, names::START, 18446744073709551615);
+    let start = header(s, from, names::START);
+    let word = start.word;
     let l = runs::runs(s, start.at, all_first, all_last, all_old, all_new);
     let end = ended(s, l.at);
     if is_bad(end) {
         return end;
     }
-    let first = slices::words_mut(all_first, l.firsts);
-    let last = slices::words_mut(all_last, l.lasts);
-    let old = slices::halves_mut(all_old, l.olds);
-    let new = slices::halves_mut(all_new, l.news);
+    let first = slices::numbers_mut(all_first, l.firsts);
+    let last = slices::numbers_mut(all_last, l.lasts);
+    let old = slices::shorts_mut(all_old, l.olds);
+    let new = slices::shorts_mut(all_new, l.news);
     let c = compare::compare(
         width,
         old_care,
@@ -83,7 +85,7 @@ fn on_lists(
         new_care,
         new_value,
         new_decision,
-        Wire(start.value),
+        Wire(word),
         first,
         last,
         old,
@@ -148,25 +150,26 @@ fn on_images(
     w: &[u8],
     to: usize,
 ) -> usize {
-    let mut first_space = [0u64; 4112];
-    let mut last_space = [0u64; 4112];
+    let mut first_space = [0u64; 8224];
+    let mut last_space = [0u64; 8224];
     let mut old_space = [0u16; 4112];
     let mut new_space = [0u16; 4112];
     let all_first: &mut [u64] = &mut first_space;
     let all_last: &mut [u64] = &mut last_space;
     let all_old: &mut [u16] = &mut old_space;
     let all_new: &mut [u16] = &mut new_space;
-    let start = named(s, from, names::START, 18446744073709551615);
+    let start = header(s, from, names::START);
+    let word = start.word;
     let l = runs::runs(s, start.at, all_first, all_last, all_old, all_new);
     let end = ended(s, l.at);
     if is_bad(end) {
         return end;
     }
-    let first = slices::words_mut(all_first, l.firsts);
-    let last = slices::words_mut(all_last, l.lasts);
-    let old = slices::halves_mut(all_old, l.olds);
-    let new = slices::halves_mut(all_new, l.news);
-    let h = Wire(start.value);
+    let first = slices::numbers_mut(all_first, l.firsts);
+    let last = slices::numbers_mut(all_last, l.lasts);
+    let old = slices::shorts_mut(all_old, l.olds);
+    let new = slices::shorts_mut(all_new, l.news);
+    let h = Wire(word);
     if by_id {
         let c = image_compare::compare_lists(
             before,

@@ -1,6 +1,7 @@
 // What a case hands to a call: slices of numbers, lists of rules, and the slices of a comparison's runs.
 use crate::names::CARE;
 use crate::names::DECISION;
+use crate::names::HALF;
 use crate::names::TIMES;
 use crate::names::TO;
 use crate::names::VALUE;
@@ -18,8 +19,10 @@ use crate::source::number;
 use crate::source::number_in;
 use crate::source::part;
 use crate::source::word_end;
+use crate::source::word_in;
 use crate::source::word_start;
 use rules::Rule;
+use words::Word;
 
 // How many places were filled, and the position after what was read.
 pub struct Filled {
@@ -60,25 +63,28 @@ enum Way {
     Bytes,
 }
 
-fn first_of(x: u64, way: Way) -> u64 {
+fn first_of(x: Word, way: Way) -> Word {
     match way {
         Way::Same => x,
         Way::Up => x,
-        Way::Bytes => x % 256,
+        Way::Bytes => words::and(x, words::lowest(8)),
     }
 }
 
-fn rest_of(x: u64, way: Way) -> u64 {
+fn rest_of(x: Word, way: Way) -> Word {
     match way {
         Way::Same => x,
-        Way::Up => std::num::wrapping_add_u64(x, 1),
-        Way::Bytes => x / 256,
+        Way::Up => words::next(x),
+        Way::Bytes => Word {
+            low: std::num::wrapping_add_u64(x.low / 256, x.high % 256 * 72057594037927936),
+            high: x.high / 256,
+        },
     }
 }
 
 // Some numbers of a slice: how many, the first, and how they go on.
 struct Item {
-    value: u64,
+    value: Word,
     times: u64,
     way: Way,
     at: usize,
@@ -86,21 +92,22 @@ struct Item {
 
 fn no_item(start: usize) -> Item {
     Item {
-        value: 0,
+        value: words::wide(0),
         times: 0,
         way: Way::Same,
         at: bad(start),
     }
 }
 
-// `12:4`: a number in so many bytes, the lowest first. Only a slice of bytes has it.
-fn in_bytes(s: &[u8], from: usize, colon: usize, end: usize, most: u64) -> Item {
-    let x = number_in(s, from, colon, 18446744073709551615);
+// `12:4`: a number in so many bytes, the lowest first, which has to fit. Only a slice of bytes has it.
+fn in_bytes(s: &[u8], from: usize, colon: usize, end: usize, most: Word) -> Item {
+    let x = word_in(s, from, colon, words::lowest(128));
+    let value = x.word;
     let n = number_in(s, next(colon), end, 16);
-    if most == 255 {
-        if !is_bad(x.at) {
+    if words::same(most, words::wide(255)) {
+        if !is_bad(x.at) && words::below(value, bits_of(n.value)) {
             return Item {
-                value: x.value,
+                value,
                 times: n.value,
                 way: Way::Bytes,
                 at: n.at,
@@ -110,13 +117,26 @@ fn in_bytes(s: &[u8], from: usize, colon: usize, end: usize, most: u64) -> Item 
     no_item(from)
 }
 
-// `2 to 9`: each number from the first to the last.
-fn counted_up(s: &[u8], first: u64, at: usize, most: u64) -> Item {
-    let last = number(s, after(s, at, TO), most);
-    if first <= last.value {
+// How many bits so many bytes have.
+fn bits_of(bytes: u64) -> u32 {
+    if bytes <= 16 {
+        return bytes as u32 * 8;
+    }
+    0
+}
+
+// `2 to 9`: each number from the first to the last. No slice has room for 100,000.
+fn counted_up(s: &[u8], first: Word, at: usize, most: Word) -> Item {
+    let from = word_start(s, after(s, at, TO));
+    let last = word_in(s, from, word_end(s, from), most);
+    let more = words::capped(words::minus(last.word, first));
+    if words::less(last.word, first) {
+        return no_item(at);
+    }
+    if more < 100000 {
         return Item {
             value: first,
-            times: std::num::wrapping_add_u64(last.value - first, 1),
+            times: more + 1,
             way: Way::Up,
             at: last.at,
         };
@@ -125,17 +145,18 @@ fn counted_up(s: &[u8], first: u64, at: usize, most: u64) -> Item {
 }
 
 // What stands here, where it is said once.
-fn once(s: &[u8], at: usize, end: usize, most: u64) -> Item {
+fn once(s: &[u8], at: usize, end: usize, most: Word) -> Item {
     let colon = byte_from(s, at, end, 58);
     if colon < end {
         return in_bytes(s, at, colon, end, most);
     }
-    let n = number_in(s, at, end, most);
+    let n = word_in(s, at, end, most);
+    let value = n.word;
     if is_next(s, end, TO) && !is_bad(n.at) {
-        return counted_up(s, n.value, end, most);
+        return counted_up(s, value, end, most);
     }
     Item {
-        value: n.value,
+        value,
         times: 1,
         way: Way::Same,
         at: n.at,
@@ -143,7 +164,7 @@ fn once(s: &[u8], at: usize, end: usize, most: u64) -> Item {
 }
 
 // The next numbers. `times` stands before one number alone.
-fn next_item(s: &[u8], from: usize, most: u64) -> Item {
+fn next_item(s: &[u8], from: usize, most: Word) -> Item {
     let t = times(s, from);
     let at = word_start(s, t.at);
     let x = once(s, at, word_end(s, at), most);
@@ -153,8 +174,9 @@ fn next_item(s: &[u8], from: usize, most: u64) -> Item {
     if x.times != 1 {
         return no_item(from);
     }
+    let value = x.value;
     Item {
-        value: x.value,
+        value,
         times: t.value,
         way: Way::Same,
         at: x.at,
@@ -162,12 +184,12 @@ fn next_item(s: &[u8], from: usize, most: u64) -> Item {
 }
 
 // Puts so many numbers into the places from `from` on.
-fn put_numbers(out: &mut [u64], from: usize, value: u64, times: u64, way: Way) -> usize {
+fn put_numbers(out: &mut [u64], from: usize, value: Word, times: u64, way: Way) -> usize {
     let mut x = value;
     let mut i = from;
     let mut left = times;
     while left > 0 {
-        slices::put_word(out, i, first_of(x, way));
+        words::put_word(out, i, first_of(x, way));
         x = rest_of(x, way);
         i = next(i);
         left -= 1;
@@ -176,9 +198,9 @@ fn put_numbers(out: &mut [u64], from: usize, value: u64, times: u64, way: Way) -
 }
 
 // Reads the next item into the places from `count` on.
-fn put_item(s: &[u8], at: usize, most: u64, out: &mut [u64], count: usize) -> Filled {
+fn put_item(s: &[u8], at: usize, most: Word, out: &mut [u64], count: usize) -> Filled {
     let x = next_item(s, at, most);
-    let end = room(count, x.times, out.len(), at, x.at);
+    let end = room(count, x.times, out.len() / 2, at, x.at);
     if is_bad(end) {
         return Filled { count, at: end };
     }
@@ -187,8 +209,8 @@ fn put_item(s: &[u8], at: usize, most: u64, out: &mut [u64], count: usize) -> Fi
     Filled { count: n, at: end }
 }
 
-// The numbers in brackets, each `most` or less, put at the start of `out`.
-pub fn numbers(s: &[u8], from: usize, most: u64, out: &mut [u64]) -> Filled {
+// The numbers after a bracket, each `most` or less, put as words at the start of `out`, up to the other bracket or the word `half`.
+fn words_after(s: &[u8], from: usize, most: Word, out: &mut [u64]) -> Filled {
     let mut at = bracket(s, from, 91);
     let mut count = 0;
     let mut left = s.len();
@@ -197,11 +219,8 @@ pub fn numbers(s: &[u8], from: usize, most: u64, out: &mut [u64]) -> Filled {
         if is_bad(at) {
             return Filled { count: 0, at };
         }
-        if is_closed(s, at) {
-            return Filled {
-                count,
-                at: bracket(s, at, 93),
-            };
+        if is_closed(s, at) || is_next(s, at, HALF) {
+            return Filled { count, at };
         }
         let f = put_item(s, at, most, out, count);
         at = f.at;
@@ -213,17 +232,44 @@ pub fn numbers(s: &[u8], from: usize, most: u64, out: &mut [u64]) -> Filled {
     }
 }
 
-// The numbers in brackets as words, as decisions and as bytes.
-pub fn words(s: &[u8], from: usize, out: &mut [u64]) -> Filled {
-    numbers(s, from, 18446744073709551615, out)
+// The numbers in brackets, put as words at the start of `out`.
+fn words_to(s: &[u8], from: usize, most: Word, out: &mut [u64]) -> Filled {
+    let f = words_after(s, from, most, out);
+    Filled {
+        count: f.count,
+        at: bracket(s, f.at, 93),
+    }
 }
 
-pub fn halves(s: &[u8], from: usize, out: &mut [u16]) -> Filled {
-    let mut space = [0u64; 4112];
+pub fn words(s: &[u8], from: usize, out: &mut [u64]) -> Filled {
+    words_to(s, from, words::lowest(128), out)
+}
+
+// A slice of words: its words, and after `half` one more number at its end. Its numbers are counted, two to a word.
+pub fn lent(s: &[u8], from: usize, out: &mut [u64]) -> Filled {
+    let f = words_after(s, from, words::lowest(128), out);
+    let count = std::num::wrapping_add_usize(f.count, f.count);
+    if is_next(s, f.at, HALF) {
+        let half = number(s, after(s, f.at, HALF), 18446744073709551615);
+        slices::put_number(out, count, half.value);
+        return Filled {
+            count: next(count),
+            at: room(count, 1, out.len(), f.at, bracket(s, half.at, 93)),
+        };
+    }
+    Filled {
+        count,
+        at: bracket(s, f.at, 93),
+    }
+}
+
+// The numbers in brackets as decisions, and as bytes.
+pub fn shorts(s: &[u8], from: usize, out: &mut [u16]) -> Filled {
+    let mut space = [0u64; 8224];
     let wide: &mut [u64] = &mut space;
-    let f = numbers(s, from, 65535, wide);
+    let f = words_to(s, from, words::wide(65535), wide);
     let end = room(0, f.count as u64, out.len(), from, f.at);
-    slices::to_halves(slices::words(wide, f.count), out);
+    slices::to_shorts(wide, f.count, out);
     Filled {
         count: f.count,
         at: end,
@@ -231,11 +277,11 @@ pub fn halves(s: &[u8], from: usize, out: &mut [u16]) -> Filled {
 }
 
 pub fn bytes(s: &[u8], from: usize, out: &mut [u8]) -> Filled {
-    let mut space = [0u64; 65600];
+    let mut space = [0u64; 131200];
     let wide: &mut [u64] = &mut space;
-    let f = numbers(s, from, 255, wide);
+    let f = words_to(s, from, words::wide(255), wide);
     let end = room(0, f.count as u64, out.len(), from, f.at);
-    slices::to_bytes(slices::words(wide, f.count), out);
+    slices::to_bytes(wide, f.count, out);
     Filled {
         count: f.count,
         at: end,
@@ -248,7 +294,7 @@ pub struct Ruled {
     pub at: usize,
 }
 
-fn rule_of(care: u64, value: u64, decision: u64, at: usize) -> Ruled {
+fn rule_of(care: Word, value: Word, decision: u64, at: usize) -> Ruled {
     Ruled {
         rule: Rule {
             care,
@@ -259,22 +305,27 @@ fn rule_of(care: u64, value: u64, decision: u64, at: usize) -> Ruled {
     }
 }
 
+// No rule, and a bad position.
+fn no_rule(at: usize) -> Ruled {
+    rule_of(words::wide(0), words::wide(0), 0, bad(at))
+}
+
 // The care word and the value word of a pattern, by place: `0` and `1` are cared for, `*` is not.
 fn pattern(s: &[u8], from: usize, end: usize) -> Ruled {
     let word = part(s, from, end);
-    if word.len() > 64 {
-        return rule_of(0, 0, 0, bad(from));
+    if word.len() > 128 {
+        return no_rule(from);
     }
-    let mut care: u64 = 0;
-    let mut value: u64 = 0;
+    let mut care = words::wide(0);
+    let mut value = words::wide(0);
     let mut i = 0;
     while i < word.len() {
         let b = word[i];
         if b != 42 && b != 48 && b != 49 {
-            return rule_of(0, 0, 0, bad(from));
+            return no_rule(from);
         }
-        care = care << 1 | place(b != 42);
-        value = value << 1 | place(b == 49);
+        care = words::pushed(care, place(b != 42));
+        value = words::pushed(value, place(b == 49));
         i += 1;
     }
     rule_of(care, value, 0, end)
@@ -290,13 +341,13 @@ fn rule(s: &[u8], from: usize) -> Ruled {
     let end = word_end(s, at);
     let slash = byte_from(s, at, end, 47);
     if slash < end {
-        let care = number_in(s, at, slash, 18446744073709551615);
-        let value = number_in(s, next(slash), end, 18446744073709551615);
+        let care = word_in(s, at, slash, words::lowest(128));
+        let value = word_in(s, next(slash), end, words::lowest(128));
         if is_bad(care.at) {
-            return rule_of(0, 0, 0, care.at);
+            return no_rule(care.at);
         }
         let decision = number(s, value.at, 65535);
-        return rule_of(care.value, value.value, decision.value, decision.at);
+        return rule_of(care.word, value.word, decision.value, decision.at);
     }
     let p = pattern(s, at, end);
     let decision = number(s, p.at, 65535);
@@ -332,7 +383,7 @@ fn put_rule(
 ) -> Filled {
     let t = times(s, at);
     let r = rule(s, t.at);
-    let end = room(count, t.value, care.len(), at, r.at);
+    let end = room(count, t.value, decision.len(), at, r.at);
     if is_bad(end) {
         return Filled { count, at: end };
     }
@@ -340,7 +391,7 @@ fn put_rule(
     Filled { count: n, at: end }
 }
 
-// The rules in brackets, put at the start of three slices of one length.
+// The rules in brackets, put at the start of three slices that belong together.
 fn rules_in(
     s: &[u8],
     from: usize,
@@ -372,7 +423,7 @@ fn rules_in(
     }
 }
 
-// How long the three slices of a list are, and the position after it.
+// How many numbers the three slices of a list have, and the position after it.
 pub struct Lengths {
     pub cares: usize,
     pub values: usize,
@@ -389,9 +440,9 @@ pub fn list(
     decision: &mut [u16],
 ) -> Lengths {
     if is_next(s, at, CARE) {
-        let c = words(s, after(s, at, CARE), care);
-        let v = words(s, after(s, c.at, VALUE), value);
-        let d = halves(s, after(s, v.at, DECISION), decision);
+        let c = lent(s, after(s, at, CARE), care);
+        let v = lent(s, after(s, c.at, VALUE), value);
+        let d = shorts(s, after(s, v.at, DECISION), decision);
         return Lengths {
             cares: c.count,
             values: v.count,
@@ -400,9 +451,10 @@ pub fn list(
         };
     }
     let f = rules_in(s, at, care, value, decision);
+    let twice = std::num::wrapping_add_usize(f.count, f.count);
     Lengths {
-        cares: f.count,
-        values: f.count,
+        cares: twice,
+        values: twice,
         decisions: f.count,
         at: f.at,
     }

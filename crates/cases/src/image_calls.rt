@@ -59,6 +59,9 @@ fn whole(call: usize, image: &[u8], w: &[u8], to: usize) -> usize {
     if call == names::WIDTH {
         return show_outcome(w, to, image::width(image));
     }
+    if call == names::FORMAT {
+        return show_outcome(w, to, image::format(image));
+    }
     show_outcome(w, to, image::count(image))
 }
 
@@ -90,7 +93,7 @@ fn body(call: usize, image: &[u8], s: &[u8], from: usize, w: &[u8], to: usize) -
 fn width_of(image: &[u8]) -> u32 {
     let w = image::width(image);
     if let Outcome::Number(n) = w {
-        if n <= 64 {
+        if n <= 128 {
             return n as u32;
         }
     }
@@ -99,8 +102,8 @@ fn width_of(image: &[u8]) -> u32 {
 
 // `id`, and `into`: the list that takes the rules.
 fn read(image: &[u8], s: &[u8], from: usize, w: &[u8], to: usize) -> usize {
-    let mut care_space = [0u64; 4112];
-    let mut value_space = [0u64; 4112];
+    let mut care_space = [0u64; 8224];
+    let mut value_space = [0u64; 8224];
     let mut decision_space = [0u16; 4112];
     let all_care: &mut [u64] = &mut care_space;
     let all_value: &mut [u64] = &mut value_space;
@@ -117,9 +120,9 @@ fn read(image: &[u8], s: &[u8], from: usize, w: &[u8], to: usize) -> usize {
     if is_bad(end) {
         return end;
     }
-    let care = slices::words_mut(all_care, l.cares);
-    let value = slices::words_mut(all_value, l.values);
-    let decision = slices::halves_mut(all_decision, l.decisions);
+    let care = slices::numbers_mut(all_care, l.cares);
+    let value = slices::numbers_mut(all_value, l.values);
+    let decision = slices::shorts_mut(all_decision, l.decisions);
     let o = image::read(image, (id.value % 65536) as u16, care, value, decision);
     let into = show::and_word(w, show_outcome(w, to, o), show::INTO);
     show::list(
@@ -132,10 +135,11 @@ fn read(image: &[u8], s: &[u8], from: usize, w: &[u8], to: usize) -> usize {
     )
 }
 
-// The call `write`: it has a width and a list, and after these `ids`, `counts` and `into`, the bytes that take the image.
+// The call `write`: it has a format, a width and a list, and after these `ids`, `counts` and `into`, the bytes that take the image.
 pub fn write(
     s: &[u8],
     at: usize,
+    format: u8,
     width: u32,
     care: &[u64],
     value: &[u64],
@@ -149,8 +153,8 @@ pub fn write(
     let ids: &mut [u16] = &mut id_space;
     let counts: &mut [u16] = &mut count_space;
     let all: &mut [u8] = &mut byte_space;
-    let i = given::halves(s, after(s, at, names::IDS), ids);
-    let c = given::halves(s, after(s, i.at, names::COUNTS), counts);
+    let i = given::shorts(s, after(s, at, names::IDS), ids);
+    let c = given::shorts(s, after(s, i.at, names::COUNTS), counts);
     let f = given::bytes(s, after(s, c.at, names::INTO), all);
     let end = ended(s, f.at);
     if is_bad(end) {
@@ -158,9 +162,10 @@ pub fn write(
     }
     let image = slices::bytes_mut(all, f.count);
     let o = image_writer::write(
+        format,
         width,
-        slices::halves(ids, i.count),
-        slices::halves(counts, c.count),
+        slices::shorts(ids, i.count),
+        slices::shorts(counts, c.count),
         care,
         value,
         decision,

@@ -54,69 +54,73 @@ pub const CHECK: usize = 23;
 
 pub const WIDTH: usize = 24;
 
-pub const COUNT: usize = 25;
+pub const FORMAT: usize = 25;
 
-pub const ENTRY: usize = 26;
+pub const COUNT: usize = 26;
 
-pub const BODY: usize = 27;
+pub const ENTRY: usize = 27;
 
-pub const BODY_REFUSAL: usize = 28;
+pub const BODY: usize = 28;
 
-pub const READ: usize = 29;
+pub const BODY_REFUSAL: usize = 29;
 
-pub const COMPARE_LISTS: usize = 30;
+pub const READ: usize = 30;
 
-pub const COMPARE_FIRST: usize = 31;
+pub const COMPARE_LISTS: usize = 31;
 
-pub const LIST: usize = 32;
+pub const COMPARE_FIRST: usize = 32;
 
-pub const OLD: usize = 33;
+pub const LIST: usize = 33;
 
-pub const NEW: usize = 34;
+pub const OLD: usize = 34;
 
-pub const INTO: usize = 35;
+pub const NEW: usize = 35;
 
-pub const HEADERS: usize = 36;
+pub const INTO: usize = 36;
 
-pub const HEADER: usize = 37;
+pub const HEADERS: usize = 37;
 
-pub const AS: usize = 38;
+pub const HEADER: usize = 38;
 
-pub const NUMBER: usize = 39;
+pub const AS: usize = 39;
 
-pub const RULE: usize = 40;
+pub const NUMBER: usize = 40;
 
-pub const RULES: usize = 41;
+pub const RULE: usize = 41;
 
-pub const PLACE: usize = 42;
+pub const RULES: usize = 42;
 
-pub const SWAP: usize = 43;
+pub const PLACE: usize = 43;
 
-pub const START: usize = 44;
+pub const SWAP: usize = 44;
 
-pub const IMAGE: usize = 45;
+pub const START: usize = 45;
 
-pub const ID: usize = 46;
+pub const IMAGE: usize = 46;
 
-pub const IDS: usize = 47;
+pub const ID: usize = 47;
 
-pub const COUNTS: usize = 48;
+pub const IDS: usize = 48;
 
-pub const CARE: usize = 49;
+pub const COUNTS: usize = 49;
 
-pub const VALUE: usize = 50;
+pub const CARE: usize = 50;
 
-pub const DECISION: usize = 51;
+pub const VALUE: usize = 51;
 
-pub const FIRST: usize = 52;
+pub const DECISION: usize = 52;
 
-pub const LAST: usize = 53;
+pub const FIRST: usize = 53;
 
-pub const TIMES: usize = 54;
+pub const LAST: usize = 54;
 
-pub const TO: usize = 55;
+pub const TIMES: usize = 55;
 
-pub const NONE: usize = 56;
+pub const TO: usize = 56;
+
+pub const NONE: usize = 57;
+
+pub const HALF: usize = 58;
 
 // Which word this is; one that is none of them has the number 99. Most words of a case are numbers, which start with no letter.
 pub fn number_of(word: &[u8]) -> usize {
@@ -124,10 +128,10 @@ pub fn number_of(word: &[u8]) -> usize {
         return 99;
     }
     let all: &[u8] =
-        b"check_list check_list_as lookup lookup_number lookup_swapped prefix_swap runs weave write compare check_rule rule_at put_rule rule_covers rule_crosses covers crosses distance apply_rule apply undo invert compose check width count entry body body_refusal read compare_lists compare_first list old new into headers header as number rule rules place swap start image id ids counts care value decision first last times to none";
+        b"check_list check_list_as lookup lookup_number lookup_swapped prefix_swap runs weave write compare check_rule rule_at put_rule rule_covers rule_crosses covers crosses distance apply_rule apply undo invert compose check width format count entry body body_refusal read compare_lists compare_first list old new into headers header as number rule rules place swap start image id ids counts care value decision first last times to none half";
     let mut at = 0;
     let mut k = 0;
-    while k < 57 {
+    while k < 59 {
         let from = word_start(all, at);
         at = word_end(all, from);
         if check::same(part(all, from, at), word) {

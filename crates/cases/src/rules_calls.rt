@@ -11,6 +11,7 @@ use crate::swaps_calls;
 use rules::Looked;
 use rules::Rule;
 use rules::Wire;
+use words::Word;
 
 // The calls that have a width and a list; `at` is the position after these.
 pub fn on_list(
@@ -55,23 +56,14 @@ fn lookups(
     w: &[u8],
     to: usize,
 ) -> usize {
-    let mut space = [0u64; 4112];
+    let mut space = [0u64; 8224];
     let headers: &mut [u64] = &mut space;
     let f = given::words(s, after(s, at, names::HEADERS), headers);
     let end = ended(s, f.at);
     if is_bad(end) {
         return end;
     }
-    look_up(
-        call,
-        width,
-        care,
-        value,
-        decision,
-        slices::words(headers, f.count),
-        w,
-        to,
-    )
+    look_up(call, width, care, value, decision, headers, f.count, w, to)
 }
 
 fn looked(
@@ -80,7 +72,7 @@ fn looked(
     care: &[u64],
     value: &[u64],
     decision: &[u16],
-    header: u64,
+    header: Word,
 ) -> Looked {
     if call == names::LOOKUP_SWAPPED {
         return swaps_calls::looked(width, care, value, decision, header);
@@ -98,12 +90,13 @@ fn look_up(
     value: &[u64],
     decision: &[u16],
     headers: &[u64],
+    count: usize,
     w: &[u8],
     to: usize,
 ) -> usize {
     let mut at = to;
     let mut i = 0;
-    while i < headers.len() {
+    while i < count {
         at = show::between(w, at, i, true);
         let l = looked(
             call,
@@ -111,7 +104,7 @@ fn look_up(
             care,
             value,
             decision,
-            slices::word_at(headers, i),
+            words::word_at(headers, i),
         );
         at = show::looked(w, at, l);
         i += 1;
@@ -186,8 +179,8 @@ fn asked(call: usize, width: u32, a: Rule, b: Rule, w: &[u8], to: usize) -> usiz
 
 // `list`, then `place`, counted from 0.
 fn rule_at(s: &[u8], from: usize, w: &[u8], to: usize) -> usize {
-    let mut care_space = [0u64; 4112];
-    let mut value_space = [0u64; 4112];
+    let mut care_space = [0u64; 8224];
+    let mut value_space = [0u64; 8224];
     let mut decision_space = [0u16; 4112];
     let care: &mut [u64] = &mut care_space;
     let value: &mut [u64] = &mut value_space;
@@ -199,9 +192,9 @@ fn rule_at(s: &[u8], from: usize, w: &[u8], to: usize) -> usize {
         return end;
     }
     let r = rules::rule_at(
-        slices::words(care, l.cares),
-        slices::words(value, l.values),
-        slices::halves(decision, l.decisions),
+        slices::numbers(care, l.cares),
+        slices::numbers(value, l.values),
+        slices::shorts(decision, l.decisions),
         place.value as usize,
     );
     show::rule(w, to, 0, r)
@@ -209,8 +202,8 @@ fn rule_at(s: &[u8], from: usize, w: &[u8], to: usize) -> usize {
 
 // `list`, `place` and `rule`: the list is shown as it is then.
 fn put_rule(s: &[u8], from: usize, w: &[u8], to: usize) -> usize {
-    let mut care_space = [0u64; 4112];
-    let mut value_space = [0u64; 4112];
+    let mut care_space = [0u64; 8224];
+    let mut value_space = [0u64; 8224];
     let mut decision_space = [0u16; 4112];
     let all_care: &mut [u64] = &mut care_space;
     let all_value: &mut [u64] = &mut value_space;
@@ -228,9 +221,9 @@ fn put_rule(s: &[u8], from: usize, w: &[u8], to: usize) -> usize {
     if is_bad(end) {
         return end;
     }
-    let care = slices::words_mut(all_care, l.cares);
-    let value = slices::words_mut(all_value, l.values);
-    let decision = slices::halves_mut(all_decision, l.decisions);
+    let care = slices::numbers_mut(all_care, l.cares);
+    let value = slices::numbers_mut(all_value, l.values);
+    let decision = slices::shorts_mut(all_decision, l.decisions);
     rules::put_rule(care, value, decision, place.value as usize, r.rule);
     show::list(
         w,

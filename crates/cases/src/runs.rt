@@ -10,8 +10,9 @@ use crate::source::after;
 use crate::source::bad;
 use crate::source::is_bad;
 use crate::source::is_next;
+use words::Word;
 
-// How long the four slices are, and the position after them.
+// How many numbers the four slices have, and the position after them.
 pub struct RunLengths {
     pub firsts: usize,
     pub lasts: usize,
@@ -21,36 +22,36 @@ pub struct RunLengths {
 }
 
 // Number k of run i, where four numbers after each other are a run.
-fn number_of(numbers: &[u64], i: usize, k: usize) -> u64 {
+fn number_of(numbers: &[u64], i: usize, k: usize) -> Word {
     if i < 100000 {
         if k < 4 {
-            return slices::word_at(numbers, i * 4 + k);
+            return words::word_at(numbers, i * 4 + k);
         }
     }
-    0
+    words::wide(0)
 }
 
 // The numbers k of all runs.
 fn put_words(numbers: &[u64], k: usize, out: &mut [u64]) {
-    let mut left = out.len();
+    let mut left = out.len() / 2;
     while left > 0 {
         left -= 1;
-        slices::put_word(out, left, number_of(numbers, left, k));
+        words::put_word(out, left, number_of(numbers, left, k));
     }
 }
 
-fn put_halves(numbers: &[u64], k: usize, out: &mut [u16]) {
-    let mut space = [0u64; 4112];
+fn put_shorts(numbers: &[u64], k: usize, out: &mut [u16]) {
+    let mut space = [0u64; 8224];
     let wide: &mut [u64] = &mut space;
     put_words(numbers, k, wide);
-    slices::to_halves(wide, out);
+    slices::to_shorts(wide, out.len(), out);
 }
 
 // Whether the answers of all runs are answers that a slice can hold.
 fn are_answers(numbers: &[u64], count: usize) -> bool {
     let mut i = 0;
     while i < count {
-        if i % 4 > 1 && slices::word_at(numbers, i) > 65535 {
+        if i % 4 > 1 && !words::below(words::word_at(numbers, i), 16) {
             return false;
         }
         i += 1;
@@ -82,10 +83,10 @@ pub fn runs(
 ) -> RunLengths {
     let at = after(s, from, INTO);
     if is_next(s, at, FIRST) {
-        let f = given::words(s, after(s, at, FIRST), first);
-        let l = given::words(s, after(s, f.at, LAST), last);
-        let o = given::halves(s, after(s, l.at, OLD), old);
-        let n = given::halves(s, after(s, o.at, NEW), new);
+        let f = given::lent(s, after(s, at, FIRST), first);
+        let l = given::lent(s, after(s, f.at, LAST), last);
+        let o = given::shorts(s, after(s, l.at, OLD), old);
+        let n = given::shorts(s, after(s, o.at, NEW), new);
         return RunLengths {
             firsts: f.count,
             lasts: l.count,
@@ -94,17 +95,18 @@ pub fn runs(
             at: n.at,
         };
     }
-    let mut space = [0u64; 16448];
+    let mut space = [0u64; 32896];
     let all: &mut [u64] = &mut space;
-    let f = given::numbers(s, at, 18446744073709551615, all);
+    let f = given::words(s, at, all);
     put_words(all, 0, first);
     put_words(all, 1, last);
-    put_halves(all, 2, old);
-    put_halves(all, 3, new);
+    put_shorts(all, 2, old);
+    put_shorts(all, 3, new);
     let count = f.count / 4;
+    let twice = std::num::wrapping_add_usize(count, count);
     RunLengths {
-        firsts: count,
-        lasts: count,
+        firsts: twice,
+        lasts: twice,
         olds: count,
         news: count,
         at: whole_runs(all, f.count, at, f.at),

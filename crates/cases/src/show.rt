@@ -16,6 +16,7 @@ use rules::Refusal;
 use rules::Rule;
 use rules::Verdict;
 use swaps::Swap;
+use words::Word;
 
 // The words of answers, each with its number.
 pub const FINE: usize = 0;
@@ -68,6 +69,8 @@ pub const RULES: usize = 23;
 
 pub const TIMES: usize = 24;
 
+pub const HALF: usize = 25;
+
 // The position at which answers are written.
 pub fn aloud() -> usize {
     4398046511104
@@ -98,7 +101,7 @@ pub fn glyph(w: &[u8], at: usize, b: u8) -> usize {
 
 pub fn word(w: &[u8], at: usize, k: usize) -> usize {
     let all: &[u8] =
-        b"fine none yes no refused at finished more from kept dropped merged into list swap care value decision first last old new id rules times";
+        b"fine none yes no refused at finished more from kept dropped merged into list swap care value decision first last old new id rules times half";
     let mut from = 0;
     let mut end = 0;
     let mut left = next(k);
@@ -114,6 +117,14 @@ pub fn number(w: &[u8], at: usize, n: u64) -> usize {
     let mut digits = [0u8; 20];
     let k = io::decimal(n, &mut digits);
     say(w, at, &digits[..k])
+}
+
+// A number of up to 39 digits.
+pub fn wide_number(w: &[u8], at: usize, n: Word) -> usize {
+    let mut space = [0u8; 39];
+    let digits: &mut [u8] = &mut space;
+    let k = text::write_number(n, digits);
+    say(w, at, slices::bytes(digits, k))
 }
 
 // A space, and then a word or a number.
@@ -185,7 +196,10 @@ pub fn compared(w: &[u8], at: usize, c: Compared) -> usize {
     let ending = c.ending;
     match ending {
         Ending::Finished => word(w, count, FINISHED),
-        Ending::More(h) => and_number(w, and_word(w, word(w, count, MORE), FROM), h.0),
+        Ending::More(h) => {
+            let from = and_word(w, word(w, count, MORE), FROM);
+            wide_number(w, glyph(w, from, 32), h.0)
+        },
         Ending::Refused(x) => refusal(w, count, x),
     }
 }
@@ -221,11 +235,12 @@ fn times(w: &[u8], at: usize, i: usize, end: usize) -> Shown {
     Shown { at, next: next(i) }
 }
 
-// Where the equal numbers from place i on end.
+// Where the equal words from place i on end.
 fn same_until(s: &[u64], i: usize) -> usize {
+    let first = words::word_at(s, i);
     let mut end = i;
-    while end < s.len() {
-        if s[end] != slices::word_at(s, i) {
+    while end < s.len() / 2 {
+        if !words::same(words::word_at(s, end), first) {
             return end;
         }
         end += 1;
@@ -233,50 +248,73 @@ fn same_until(s: &[u64], i: usize) -> usize {
     end
 }
 
-fn some_numbers(w: &[u8], at: usize, s: &[u64], i: usize) -> Shown {
+fn some_words(w: &[u8], at: usize, s: &[u64], i: usize) -> Shown {
     let t = times(w, between(w, at, i, false), i, same_until(s, i));
     Shown {
-        at: number(w, t.at, slices::word_at(s, i)),
+        at: wide_number(w, t.at, words::word_at(s, i)),
         next: t.next,
     }
 }
 
-// The numbers of a slice in brackets.
-fn numbers(w: &[u8], from: usize, s: &[u64]) -> usize {
+// A number that is left over after the words of a slice.
+fn left_over(w: &[u8], at: usize, s: &[u64]) -> usize {
+    let words = s.len() / 2;
+    if s.len() % 2 == 0 {
+        return at;
+    }
+    named(
+        w,
+        between(w, at, words, false),
+        HALF,
+        slices::number_at(s, s.len() - 1),
+    )
+}
+
+// The words of a slice in brackets.
+fn words_of(w: &[u8], from: usize, s: &[u64]) -> usize {
     let mut at = glyph(w, from, 91);
     let mut i = 0;
-    let mut left = s.len();
+    let mut left = s.len() / 2;
     while left > 0 {
         left -= 1;
-        if i < s.len() {
-            let x = some_numbers(w, at, s, i);
+        if i < s.len() / 2 {
+            let x = some_words(w, at, s, i);
             at = x.at;
             i = x.next;
         }
     }
-    glyph(w, at, 93)
+    glyph(w, left_over(w, at, s), 93)
 }
 
 // A slice with the word before it.
-pub fn words(w: &[u8], at: usize, k: usize, s: &[u64]) -> usize {
-    numbers(w, glyph(w, word(w, at, k), 32), s)
+fn slice(w: &[u8], at: usize, k: usize, s: &[u64]) -> usize {
+    words_of(w, glyph(w, word(w, at, k), 32), s)
 }
 
-pub fn halves(w: &[u8], at: usize, k: usize, s: &[u16]) -> usize {
-    let mut space = [0u64; 4112];
+pub fn shorts(w: &[u8], at: usize, k: usize, s: &[u16]) -> usize {
+    let mut space = [0u64; 8224];
     let wide: &mut [u64] = &mut space;
-    slices::of_halves(s, wide);
-    words(w, at, k, slices::words(wide, s.len()))
+    slices::of_shorts(s, wide);
+    slice(
+        w,
+        at,
+        k,
+        slices::numbers(wide, std::num::wrapping_add_usize(s.len(), s.len())),
+    )
 }
 
 pub fn bytes(w: &[u8], at: usize, s: &[u8]) -> usize {
-    let mut space = [0u64; 65600];
+    let mut space = [0u64; 131200];
     let wide: &mut [u64] = &mut space;
     slices::of_bytes(s, wide);
-    numbers(w, at, slices::words(wide, s.len()))
+    words_of(
+        w,
+        at,
+        slices::numbers(wide, std::num::wrapping_add_usize(s.len(), s.len())),
+    )
 }
 
-fn fits(width: u32, care: u64, value: u64) -> bool {
+fn fits(width: u32, care: Word, value: Word) -> bool {
     let v = rules::check_rule(
         width,
         1,
@@ -296,24 +334,24 @@ fn fits(width: u32, care: u64, value: u64) -> bool {
 // A rule that fits the width as its pattern, another by its two words, and its decision.
 pub fn rule(w: &[u8], at: usize, width: u32, r: Rule) -> usize {
     if fits(width, r.care, r.value) {
-        let mut space = [0u8; 64];
+        let mut space = [0u8; 128];
         let pattern: &mut [u8] = &mut space;
         let n = text::write_pattern(width, r, pattern);
         return and_number(w, say(w, at, slices::bytes(pattern, n)), r.decision as u64);
     }
-    let slash = glyph(w, number(w, at, r.care), 47);
-    and_number(w, number(w, slash, r.value), r.decision as u64)
+    let slash = glyph(w, wide_number(w, at, r.care), 47);
+    and_number(w, wide_number(w, slash, r.value), r.decision as u64)
 }
 
 fn same_rules(a: Rule, b: Rule) -> bool {
-    a.care == b.care && a.value == b.value && a.decision == b.decision
+    words::same(a.care, b.care) && words::same(a.value, b.value) && a.decision == b.decision
 }
 
 // Where the equal rules from place i on end.
 fn alike_until(care: &[u64], value: &[u64], decision: &[u16], i: usize) -> usize {
     let r = rules::rule_at(care, value, decision, i);
     let mut end = i;
-    while end < care.len() {
+    while end < decision.len() {
         if !same_rules(r, rules::rule_at(care, value, decision, end)) {
             return end;
         }
@@ -349,10 +387,10 @@ fn rules_of(
 ) -> usize {
     let mut at = glyph(w, from, 91);
     let mut i = 0;
-    let mut left = care.len();
+    let mut left = decision.len();
     while left > 0 {
         left -= 1;
-        if i < care.len() {
+        if i < decision.len() {
             let x = some_rules(w, at, width, care, value, decision, i);
             at = x.at;
             i = x.next;
@@ -370,12 +408,12 @@ pub fn list(
     value: &[u64],
     decision: &[u16],
 ) -> usize {
-    if care.len() == value.len() && care.len() == decision.len() {
+    if care.len() == value.len() && care.len() == decision.len() * 2 {
         return rules_of(w, at, width, care, value, decision);
     }
-    let after_care = glyph(w, words(w, at, CARE, care), 32);
-    let after_value = glyph(w, words(w, after_care, VALUE, value), 32);
-    halves(w, after_value, DECISION, decision)
+    let after_care = glyph(w, slice(w, at, CARE, care), 32);
+    let after_value = glyph(w, slice(w, after_care, VALUE, value), 32);
+    shorts(w, after_value, DECISION, decision)
 }
 
 // The width of a swap and its entries; entries of 0 after the last other one are left out.
@@ -396,22 +434,23 @@ fn last_entry(places: &[u8]) -> usize {
     0
 }
 
-fn run(w: &[u8], at: usize, first: u64, last: u64, old: u64, new: u64) -> usize {
-    let headers = glyph(w, and_number(w, number(w, at, first), last), 32);
+fn run(w: &[u8], at: usize, first: Word, last: Word, old: u64, new: u64) -> usize {
+    let to = glyph(w, wide_number(w, at, first), 32);
+    let headers = glyph(w, wide_number(w, to, last), 32);
     answer(w, glyph(w, answer(w, headers, old), 32), new)
 }
 
 fn runs_of(w: &[u8], from: usize, first: &[u64], last: &[u64], old: &[u16], new: &[u16]) -> usize {
     let mut at = glyph(w, from, 91);
     let mut i = 0;
-    while i < first.len() {
+    while i < old.len() {
         at = run(
             w,
             between(w, at, i, true),
-            slices::word_at(first, i),
-            slices::word_at(last, i),
-            slices::half_at(old, i) as u64,
-            slices::half_at(new, i) as u64,
+            words::word_at(first, i),
+            words::word_at(last, i),
+            slices::short_at(old, i) as u64,
+            slices::short_at(new, i) as u64,
         );
         i += 1;
     }
@@ -421,11 +460,11 @@ fn runs_of(w: &[u8], from: usize, first: &[u64], last: &[u64], old: &[u16], new:
 // What the four slices of a comparison hold: runs, or the slices where they differ in length.
 pub fn runs(w: &[u8], at: usize, first: &[u64], last: &[u64], old: &[u16], new: &[u16]) -> usize {
     let into = glyph(w, and_word(w, at, INTO), 32);
-    if first.len() == last.len() && first.len() == old.len() && first.len() == new.len() {
+    if first.len() == last.len() && first.len() == old.len() * 2 && old.len() == new.len() {
         return runs_of(w, into, first, last, old, new);
     }
-    let after_first = glyph(w, words(w, into, FIRST, first), 32);
-    let after_last = glyph(w, words(w, after_first, LAST, last), 32);
-    let after_old = glyph(w, halves(w, after_last, OLD, old), 32);
-    halves(w, after_old, NEW, new)
+    let after_first = glyph(w, slice(w, into, FIRST, first), 32);
+    let after_last = glyph(w, slice(w, after_first, LAST, last), 32);
+    let after_old = glyph(w, shorts(w, after_last, OLD, old), 32);
+    shorts(w, after_old, NEW, new)
 }

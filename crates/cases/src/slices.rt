@@ -1,10 +1,10 @@
 // The slices that a case lends: each is the start of a longer one. Every function is total: a place past the end reads as 0,
 // nothing is put there, and a length past the end gives the empty slice.
-pub fn words(s: &[u64], n: usize) -> &[u64] {
+pub fn numbers(s: &[u64], n: usize) -> &[u64] {
     if n <= s.len() { &s[..n] } else { &s[..0] }
 }
 
-pub fn halves(s: &[u16], n: usize) -> &[u16] {
+pub fn shorts(s: &[u16], n: usize) -> &[u16] {
     if n <= s.len() { &s[..n] } else { &s[..0] }
 }
 
@@ -12,7 +12,7 @@ pub fn bytes(s: &[u8], n: usize) -> &[u8] {
     if n <= s.len() { &s[..n] } else { &s[..0] }
 }
 
-pub fn words_mut(s: &mut [u64], n: usize) -> &mut [u64] {
+pub fn numbers_mut(s: &mut [u64], n: usize) -> &mut [u64] {
     if n <= s.len() {
         &mut s[..n]
     } else {
@@ -20,7 +20,7 @@ pub fn words_mut(s: &mut [u64], n: usize) -> &mut [u64] {
     }
 }
 
-pub fn halves_mut(s: &mut [u16], n: usize) -> &mut [u16] {
+pub fn shorts_mut(s: &mut [u16], n: usize) -> &mut [u16] {
     if n <= s.len() {
         &mut s[..n]
     } else {
@@ -36,11 +36,11 @@ pub fn bytes_mut(s: &mut [u8], n: usize) -> &mut [u8] {
     }
 }
 
-pub fn word_at(s: &[u64], i: usize) -> u64 {
+pub fn number_at(s: &[u64], i: usize) -> u64 {
     if i < s.len() { s[i] } else { 0 }
 }
 
-pub fn half_at(s: &[u16], i: usize) -> u16 {
+pub fn short_at(s: &[u16], i: usize) -> u16 {
     if i < s.len() { s[i] } else { 0 }
 }
 
@@ -48,13 +48,13 @@ pub fn byte_at(s: &[u8], i: usize) -> u8 {
     if i < s.len() { s[i] } else { 0 }
 }
 
-pub fn put_word(s: &mut [u64], i: usize, x: u64) {
+pub fn put_number(s: &mut [u64], i: usize, x: u64) {
     if i < s.len() {
         s[i] = x;
     }
 }
 
-fn put_half(s: &mut [u16], i: usize, x: u16) {
+fn put_short(s: &mut [u16], i: usize, x: u16) {
     if i < s.len() {
         s[i] = x;
     }
@@ -66,27 +66,30 @@ pub fn put_byte(s: &mut [u8], i: usize, x: u8) {
     }
 }
 
-// The numbers as numbers of 16 bits.
-pub fn to_halves(from: &[u64], to: &mut [u16]) {
+// The first `count` words as numbers of 16 bits, and as bytes.
+pub fn to_shorts(from: &[u64], count: usize, to: &mut [u16]) {
     let mut i = 0;
-    while i < from.len() {
-        put_half(to, i, (from[i] % 65536) as u16);
+    while i < count {
+        let n = words::capped(words::word_at(from, i));
+        put_short(to, i, (n % 65536) as u16);
         i += 1;
     }
 }
 
-pub fn to_bytes(from: &[u64], to: &mut [u8]) {
+pub fn to_bytes(from: &[u64], count: usize, to: &mut [u8]) {
     let mut i = 0;
-    while i < from.len() {
-        put_byte(to, i, (from[i] % 256) as u8);
+    while i < count {
+        let n = words::capped(words::word_at(from, i));
+        put_byte(to, i, (n % 256) as u8);
         i += 1;
     }
 }
 
-pub fn of_halves(from: &[u16], to: &mut [u64]) {
+// The numbers as words.
+pub fn of_shorts(from: &[u16], to: &mut [u64]) {
     let mut i = 0;
     while i < from.len() {
-        put_word(to, i, half_at(from, i) as u64);
+        words::put_word(to, i, words::wide(short_at(from, i) as u64));
         i += 1;
     }
 }
@@ -94,7 +97,7 @@ pub fn of_halves(from: &[u16], to: &mut [u64]) {
 pub fn of_bytes(from: &[u8], to: &mut [u64]) {
     let mut i = 0;
     while i < from.len() {
-        put_word(to, i, byte_at(from, i) as u64);
+        words::put_word(to, i, words::wide(byte_at(from, i) as u64));
         i += 1;
     }
 }

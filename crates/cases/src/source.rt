@@ -3,6 +3,7 @@
 use crate::names::NONE;
 use crate::names::number_of;
 use text::Number;
+use words::Word;
 
 pub fn byte(s: &[u8], at: usize) -> u8 {
     if at < s.len() { s[at] } else { 0 }
@@ -130,22 +131,36 @@ pub struct Taken {
 // What a word stands for; `none` is 65,535, which stands for no match.
 fn meant(word: &[u8]) -> Number {
     if number_of(word) == NONE {
-        return Number::Value(65535);
+        return Number::Value(words::wide(65535));
     }
     text::read_number(word)
 }
 
+// A number that a word holds, and the position after it.
+pub struct Given {
+    pub word: Word,
+    pub at: usize,
+}
+
 // The number in a part of the text, which may be `most` and no larger.
-pub fn number_in(s: &[u8], from: usize, end: usize, most: u64) -> Taken {
+pub fn word_in(s: &[u8], from: usize, end: usize, most: Word) -> Given {
     let n = meant(part(s, from, end));
     if let Number::Value(x) = n {
-        if x <= most {
-            return Taken { value: x, at: end };
+        if !words::less(most, x) {
+            return Given { word: x, at: end };
         }
     }
-    Taken {
-        value: 0,
+    Given {
+        word: words::wide(0),
         at: bad(from),
+    }
+}
+
+pub fn number_in(s: &[u8], from: usize, end: usize, most: u64) -> Taken {
+    let g = word_in(s, from, end, words::wide(most));
+    Taken {
+        value: words::capped(g.word),
+        at: g.at,
     }
 }
 
@@ -153,6 +168,12 @@ pub fn number_in(s: &[u8], from: usize, end: usize, most: u64) -> Taken {
 pub fn number(s: &[u8], from: usize, most: u64) -> Taken {
     let at = word_start(s, from);
     number_in(s, at, word_end(s, at), most)
+}
+
+// An argument that is a header: its name, then the number.
+pub fn header(s: &[u8], from: usize, name: usize) -> Given {
+    let at = word_start(s, after(s, from, name));
+    word_in(s, at, word_end(s, at), words::lowest(128))
 }
 
 // An argument that is a number: its name, then the number.

@@ -4,6 +4,7 @@ use crate::names;
 use crate::show;
 use crate::source::after;
 use crate::source::ended;
+use crate::source::header;
 use crate::source::is_bad;
 use crate::source::named;
 use rules::Looked;
@@ -13,6 +14,7 @@ use swaps::Swap;
 use swaps::SwapAnswer;
 use swaps::ToSwapped;
 use swaps::ToWire;
+use words::Word;
 
 // A swap, and the position after it.
 struct Given {
@@ -23,7 +25,7 @@ struct Given {
 // An argument `swap`: its width, and its entries in brackets; those that are left out are 0.
 fn swap_in(s: &[u8], from: usize) -> Given {
     let width = named(s, from, names::SWAP, 4294967295);
-    let mut places = [0u8; 64];
+    let mut places = [0u8; 128];
     let f = given::bytes(s, width.at, &mut places);
     Given {
         swap: Swap {
@@ -34,20 +36,20 @@ fn swap_in(s: &[u8], from: usize) -> Given {
     }
 }
 
-// The swap of 64 places that leaves each where it is.
+// The swap of 128 places that leaves each where it is.
 fn still() -> Swap {
-    let mut places = [0u8; 64];
-    let mut left: usize = 64;
+    let mut places = [0u8; 128];
+    let mut left: usize = 128;
     while left > 0 {
         places[left - 1] = left as u8;
         left -= 1;
     }
-    Swap { places, width: 64 }
+    Swap { places, width: 128 }
 }
 
 fn show_wire(w: &[u8], to: usize, h: ToWire) -> usize {
     match h {
-        ToWire::Header(x) => show::number(w, to, x.0),
+        ToWire::Header(x) => show::wide_number(w, to, x.0),
         ToWire::Refused(x) => show::refusal(w, to, x),
     }
 }
@@ -61,7 +63,7 @@ fn show_swapped(w: &[u8], to: usize, h: ToSwapped) -> usize {
 }
 
 // Any number is a swapped header by the swap which moves nothing.
-fn undone(w: &[u8], to: usize, swap: Swap, header: u64) -> usize {
+fn undone(w: &[u8], to: usize, swap: Swap, header: Word) -> usize {
     match still().apply(Wire(header)) {
         ToSwapped::Header(x) => show_wire(w, to, swap.undo(x)),
         ToSwapped::Refused(x) => show::refusal(w, to, x),
@@ -100,7 +102,7 @@ pub fn prefix_swap(
 }
 
 // What the list answers to the swapped header with this number.
-pub fn looked(width: u32, care: &[u64], value: &[u64], decision: &[u16], header: u64) -> Looked {
+pub fn looked(width: u32, care: &[u64], value: &[u64], decision: &[u16], header: Word) -> Looked {
     match still().apply(Wire(header)) {
         ToSwapped::Header(x) => swaps::lookup_swapped(width, care, value, decision, x),
         ToSwapped::Refused(x) => Looked::Refused(x),
@@ -133,15 +135,16 @@ pub fn on_swap(call: usize, s: &[u8], from: usize, w: &[u8], to: usize) -> usize
 }
 
 fn moved(call: usize, swap: Swap, s: &[u8], from: usize, w: &[u8], to: usize) -> usize {
-    let header = named(s, from, names::HEADER, 18446744073709551615);
-    let end = ended(s, header.at);
+    let h = header(s, from, names::HEADER);
+    let word = h.word;
+    let end = ended(s, h.at);
     if is_bad(end) {
         return end;
     }
     if call == names::APPLY {
-        return show_swapped(w, to, swap.apply(Wire(header.value)));
+        return show_swapped(w, to, swap.apply(Wire(word)));
     }
-    undone(w, to, swap, header.value)
+    undone(w, to, swap, word)
 }
 
 fn apply_rule(swap: Swap, s: &[u8], from: usize, w: &[u8], to: usize) -> usize {

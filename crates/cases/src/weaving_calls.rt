@@ -63,15 +63,15 @@ fn cut(
 ) -> usize {
     let mut space = [0u16; 4112];
     let all: &mut [u16] = &mut space;
-    let f = given::halves(s, after(s, at, names::INTO), all);
+    let f = given::shorts(s, after(s, at, names::INTO), all);
     let end = ended(s, f.at);
     if is_bad(end) {
         return end;
     }
-    let sizes = slices::halves_mut(all, f.count);
+    let sizes = slices::shorts_mut(all, f.count);
     let c = weaving::runs(width, care, value, decision, sizes);
     let answer = show::glyph(w, show_counted(w, to, c), 32);
-    show::halves(w, answer, show::INTO, sizes)
+    show::shorts(w, answer, show::INTO, sizes)
 }
 
 // `into`: the list that takes the woven rules.
@@ -85,8 +85,8 @@ fn weave(
     w: &[u8],
     to: usize,
 ) -> usize {
-    let mut care_space = [0u64; 4112];
-    let mut value_space = [0u64; 4112];
+    let mut care_space = [0u64; 8224];
+    let mut value_space = [0u64; 8224];
     let mut decision_space = [0u16; 4112];
     let all_care: &mut [u64] = &mut care_space;
     let all_value: &mut [u64] = &mut value_space;
@@ -102,9 +102,9 @@ fn weave(
     if is_bad(end) {
         return end;
     }
-    let to_care = slices::words_mut(all_care, l.cares);
-    let to_value = slices::words_mut(all_value, l.values);
-    let to_decision = slices::halves_mut(all_decision, l.decisions);
+    let to_care = slices::numbers_mut(all_care, l.cares);
+    let to_value = slices::numbers_mut(all_value, l.values);
+    let to_decision = slices::shorts_mut(all_decision, l.decisions);
     let woven = weaving::weave(width, care, value, decision, to_care, to_value, to_decision);
     let into = show::and_word(w, show_woven(w, to, woven), show::INTO);
     show::list(

@@ -4,7 +4,7 @@ use mathlib.Core.List.{List, [], _∷_}
 use mathlib.Core.Bool.{Bool, true, false}
 use Prim.Native.Nat.{ℕ}
 use lib.Dec.{eqb}
-use Rattle.rules.proofs.Tests.{eqb-yes, yes-eqb, and-true, true-and, true-false, same-test}
+use Rattle.words.proofs.Tests.{eqb-yes, yes-eqb, and-true, true-and, true-false, same-test}
 use Rattle.command_line.specs.Words.{sameBytes}
 
 same-itself : (xs : List ℕ) → sameBytes xs xs ≡ true

@@ -3,22 +3,39 @@
 ghost use mathlib.Core.Path.{_≡_};
 ghost use mathlib.Core.Bool.{true, false};
 ghost use mathlib.Core.List.{List};
-ghost use Prim.Native.Nat.{ℕ, _+_, _^_, _<_, _≤_};
+ghost use Prim.Native.Nat.{ℕ, _+_, _-_, _^_, _<_, _≤_};
 ghost use lib.ListN.{length};
 ghost use lib.Bits.{bitAnd};
+ghost use Rattle.words.specs.Halves.{num, limit};
+ghost use Rattle.words.specs.Slices.{wordsOf};
 ghost use Rattle.compare.specs.EngineSets.{Ready, member, answerOf, Within};
-ghost use Rattle.compare.specs.EngineCubes.{Block, Constant};
-ghost use Rattle.compare.specs.Sweep.{Differs, Hinted, Known, Shaped, Loose, Settled, Parted, Goes};
+ghost use Rattle.compare.specs.EngineCubes.{Block, IsBlock, Constant};
+ghost use Rattle.compare.specs.Sweep.{Differs, Known, Shaped, Loose, Settled, Parted, Goes};
 use crate::engine::Found;
-use crate::engine::ones;
+use crate::engine::above;
+use crate::engine::after;
+use crate::engine::is_full;
+use crate::engine::known_word;
+use crate::engine::read;
 use crate::engine_cubes::differs;
 use crate::engine_cubes::only;
 use crate::engine_sets::Cube;
 use crate::engine_sets::answer;
-use crate::engine_sets::known;
+use crate::engine_sets::last_of;
 use crate::engine_sets::narrow;
 use crate::engine_sets::next;
 use crate::engine_sets::start as before_all;
+use words::Word;
+use words::and;
+use words::flip;
+use words::is_zero;
+use words::leading_zeros;
+use words::less;
+use words::lowest;
+use words::or;
+use words::same;
+use words::single;
+use words::xor;
 
 // Whether a block is one piece, with these answers.
 enum Shape {
@@ -30,9 +47,9 @@ enum Shape {
 // one. `known` is a difference.
 pub(crate) struct Parts {
     pub k: u32,
-    pub low: u64,
-    pub high: u64,
-    pub known: u64,
+    pub low: Word,
+    pub high: Word,
+    pub known: Word,
 }
 
 // The way that a block with a difference goes: it is one piece with these answers, or its parts are swept.
@@ -41,7 +58,8 @@ pub(crate) enum Way {
     Parts(Parts),
 }
 
-// A difference of the block of 2^k headers from `base` on, or that it has none at or after `start`. One that is known is taken.
+// A difference of the block of 2^k headers that the cube is, or that it has none at or after `start`. A difference that is known is
+// taken where it lies in the block.
 pub(crate) fn ask(
     oc: &[u64],
     ov: &[u64],
@@ -53,30 +71,26 @@ pub(crate) fn ask(
     nd: &[u16],
     nl: &[u64; 17],
     nm: u16,
-    start: u64,
-    base: u64,
+    start: Word,
+    cube: Cube,
     k: u32,
-    hint: Found,
+    known: Word,
 ) -> Found
-    requires { ⌜ Ready (now oc) (now ov) (now od) × Ready (now nc) (now nv) (now nd) × Block base k
-        × Hinted (answerOf (now oc) (now ov) (now od) (now ol) om) (answerOf (now nc) (now nv) (now nd) (now nl) nm) base (base + 2 ^ k) hint ⌝ }
-    ensures { λ r. ⌜ Known (answerOf (now (oc .entry)) (now (ov .entry)) (now (od .entry)) (now (ol .entry)) om)
-        (answerOf (now (nc .entry)) (now (nv .entry)) (now (nd .entry)) (now (nl .entry)) nm) start base (base + 2 ^ k) r ⌝ }
+    requires { ⌜ Ready (wordsOf (now oc)) (wordsOf (now ov)) (now od) × Ready (wordsOf (now nc)) (wordsOf (now nv)) (now nd) × IsBlock cube k
+        × (answerOf (wordsOf (now oc)) (wordsOf (now ov)) (now od) (now ol) om (num known)
+        ≡ answerOf (wordsOf (now nc)) (wordsOf (now nv)) (now nd) (now nl) nm (num known) → ⊥) ⌝ }
+    ensures { λ r. ⌜ Known (answerOf (wordsOf (now (oc .entry))) (wordsOf (now (ov .entry))) (now (od .entry)) (now (ol .entry)) om)
+        (answerOf (wordsOf (now (nc .entry))) (wordsOf (now (nv .entry))) (now (nd .entry)) (now (nl .entry)) nm) (num start) (num (cube .value)) (num (cube .value) + 2 ^ k) r ⌝ }
 {
-    let low = ones(k);
-    if base + low < start {
+    if less(last_of(cube), start) {
         return Found::Nothing;
     }
-    let Found::Nothing = hint else {
-        return hint;
-    };
-    let cube = Cube {
-        care: 18446744073709551615 - low,
-        value: base,
-    };
+    if same(and(known, cube.care), cube.value) {
+        return Found::At(known);
+    }
     let found = differs(oc, ov, od, ol, om, nc, nv, nd, nl, nm, cube, false);
     match found {
-        Found::At(h) => Found::At(known(h)),
+        Found::At(h) => Found::At(known_word(h)),
         Found::Nothing => Found::Nothing,
     }
 }
@@ -92,13 +106,13 @@ fn steady(
     a: u16,
     cube: Cube,
 ) -> bool
-    requires { ⌜ Ready (now care) (now value) (now decision) × Within (now care) (now value) (now live) (cube .care) (cube .value)
-        × (bitAnd (cube .value) (cube .care) ≡ cube .value)
-        × (a ≡ answerOf (now care) (now value) (now decision) (now live) miss (cube .value)) ⌝ }
-    ensures { λ r. ⌜ (r ≡ true → Constant (answerOf (now (care .entry)) (now (value .entry)) (now (decision .entry)) (now (live .entry)) miss)
-        (cube .care) (cube .value) a) ⌝ }
+    requires { ⌜ Ready (wordsOf (now care)) (wordsOf (now value)) (now decision) × Within (wordsOf (now care)) (wordsOf (now value)) (now live) (num (cube .care)) (num (cube .value))
+        × (bitAnd (num (cube .value)) (num (cube .care)) ≡ num (cube .value))
+        × (a ≡ answerOf (wordsOf (now care)) (wordsOf (now value)) (now decision) (now live) miss (num (cube .value))) ⌝ }
+    ensures { λ r. ⌜ (r ≡ true → Constant (answerOf (wordsOf (now (care .entry))) (wordsOf (now (value .entry))) (now (decision .entry)) (now (live .entry)) miss)
+        (num (cube .care)) (num (cube .value)) a) ⌝ }
 {
-    let n = care.len();
+    let n = decision.len();
     let words = (n + 63) / 64;
     let s = next(live, before_all(live), 0, n, words);
     if only(care, value, decision, live, miss, s, a, cube) {
@@ -139,18 +153,18 @@ fn shape_of(
     nd: &[u16],
     nl: &[u64; 17],
     nm: u16,
-    start: u64,
+    start: Word,
     k: u32,
     cube: Cube,
 ) -> Shape
-    requires { ⌜ Ready (now oc) (now ov) (now od) × Ready (now nc) (now nv) (now nd)
-        × Within (now oc) (now ov) (now ol) (cube .care) (cube .value) × Within (now nc) (now nv) (now nl) (cube .care) (cube .value)
-        × (bitAnd (cube .value) (cube .care) ≡ cube .value) × (k ≡ 0 → cube .care ≡ 18446744073709551615) ⌝ }
-    ensures { λ r. ⌜ Shaped (answerOf (now (oc .entry)) (now (ov .entry)) (now (od .entry)) (now (ol .entry)) om)
-        (answerOf (now (nc .entry)) (now (nv .entry)) (now (nd .entry)) (now (nl .entry)) nm) (cube .care) (cube .value) start k r ⌝ }
+    requires { ⌜ Ready (wordsOf (now oc)) (wordsOf (now ov)) (now od) × Ready (wordsOf (now nc)) (wordsOf (now nv)) (now nd)
+        × Within (wordsOf (now oc)) (wordsOf (now ov)) (now ol) (num (cube .care)) (num (cube .value)) × Within (wordsOf (now nc)) (wordsOf (now nv)) (now nl) (num (cube .care)) (num (cube .value))
+        × (bitAnd (num (cube .value)) (num (cube .care)) ≡ num (cube .value)) × (k ≡ 0 → num (cube .care) ≡ limit - 1) ⌝ }
+    ensures { λ r. ⌜ Shaped (answerOf (wordsOf (now (oc .entry))) (wordsOf (now (ov .entry))) (now (od .entry)) (now (ol .entry)) om)
+        (answerOf (wordsOf (now (nc .entry))) (wordsOf (now (nv .entry))) (now (nd .entry)) (now (nl .entry)) nm) (num (cube .care)) (num (cube .value)) (num start) k r ⌝ }
 {
     let base = cube.value;
-    if base < start {
+    if less(base, start) {
         return Shape::Mixed;
     }
     let a = answer(oc, ov, od, ol, om, base);
@@ -161,7 +175,7 @@ fn shape_of(
     if k == 0 {
         return Shape::Piece(a, b);
     }
-    let last = base | (cube.care ^ 18446744073709551615);
+    let last = last_of(cube);
     if answer(oc, ov, od, ol, om, last) != a {
         return Shape::Mixed;
     }
@@ -176,22 +190,21 @@ fn shape_of(
     Shape::Mixed
 }
 
-// The places at which a header that some rule in play matches may have another value than h. Where the place of weight
-// 2^(k - 1) is one of them, it says all places: no part of a block of 2^k headers is to be found then.
-fn loose(care: &[u64], value: &[u64], live: &[u64; 17], h: u64, k: u32) -> u64
-    requires { ⌜ (length (now care) ≤ 1024) × (length (now value) ≡ length (now care)) × (0 < k) × (k ≤ 64) ⌝ }
-    ensures { λ r. ⌜ Loose (now (care .entry)) (now (value .entry)) (now (live .entry)) (2 ^ 64) h (length (now (care .entry))) r ⌝ }
+// The places at which a header that some rule in play matches may have another value than h. Where `top`, one place, is among them, it
+// says all places: a caller that asks for `top` needs to know no more then.
+fn loose(care: &[u64], value: &[u64], live: &[u64; 17], h: Word, top: Word) -> Word
+    requires { ⌜ (length (wordsOf (now care)) ≤ 1024) × (length (wordsOf (now value)) ≡ length (wordsOf (now care))) ⌝ }
+    ensures { λ r. ⌜ Loose (wordsOf (now (care .entry))) (wordsOf (now (value .entry))) (now (live .entry)) (num h) (length (wordsOf (now (care .entry)))) (num r) ⌝ }
 {
-    let n = care.len();
+    let n = care.len() / 2;
     let words = (n + 63) / 64;
-    let top = 1u64 << (k - 1);
-    let mut places: u64 = 0;
+    let mut places = Word { low: 0, high: 0 };
     let mut s = next(live, before_all(live), 0, n, words);
     while s.at < n {
         let i = s.at;
-        places = places | ((care[i] ^ 18446744073709551615) | (value[i] ^ h));
-        if places & top != 0 {
-            return 18446744073709551615;
+        places = or(places, or(flip(read(care, i)), xor(read(value, i), h)));
+        if !is_zero(and(places, top)) {
+            return lowest(128);
         }
         s = next(live, s, i + 1, n, words);
     }
@@ -199,7 +212,8 @@ fn loose(care: &[u64], value: &[u64], live: &[u64; 17], h: u64, k: u32) -> u64
 }
 
 // The places at which a header with a difference may have another value than h. A header that no rule in play matches is a
-// difference where a miss does not count as the same number on both sides: then it may have any value at every place.
+// difference where a miss does not count as the same number on both sides: then it may have any value at every place. Where the
+// place of weight 2^(k - 1) is one of them, it says all places: no part of a block of 2^k headers is to be found then.
 fn loose_places(
     oc: &[u64],
     ov: &[u64],
@@ -209,59 +223,52 @@ fn loose_places(
     nv: &[u64],
     nl: &[u64; 17],
     nm: u16,
-    h: u64,
+    h: Word,
     k: u32,
-) -> u64
-    requires { ⌜ (length (now oc) ≤ 1024) × (length (now ov) ≡ length (now oc)) × (length (now nc) ≤ 1024) × (length (now nv) ≡ length (now nc))
-        × (0 < k) × (k ≤ 64) ⌝ }
-    ensures { λ r. ⌜ ((od nd : List ℕ) → Settled (answerOf (now (oc .entry)) (now (ov .entry)) od (now (ol .entry)) om)
-        (answerOf (now (nc .entry)) (now (nv .entry)) nd (now (nl .entry)) nm) (2 ^ 64) h r) ⌝ }
+) -> Word
+    requires { ⌜ (length (wordsOf (now oc)) ≤ 1024) × (length (wordsOf (now ov)) ≡ length (wordsOf (now oc)))
+        × (length (wordsOf (now nc)) ≤ 1024) × (length (wordsOf (now nv)) ≡ length (wordsOf (now nc))) × (0 < k) ⌝ }
+    ensures { λ r. ⌜ ((od nd : List ℕ) → Settled (answerOf (wordsOf (now (oc .entry))) (wordsOf (now (ov .entry))) od (now (ol .entry)) om)
+        (answerOf (wordsOf (now (nc .entry))) (wordsOf (now (nv .entry))) nd (now (nl .entry)) nm) (num h) (num r)) ⌝ }
 {
     if om != nm {
-        return 18446744073709551615;
+        return lowest(128);
     }
-    let old = loose(oc, ov, ol, h, k);
-    if old == 18446744073709551615 {
+    let top = single(k - 1);
+    let old = loose(oc, ov, ol, h, top);
+    if is_full(old) {
         return old;
     }
-    old | loose(nc, nv, nl, h, k)
+    or(old, loose(nc, nv, nl, h, top))
 }
 
 // The parts of the block of 2^k headers from `base` on that are to be swept, where a difference may have another value than the
-// difference h at these places only: the smaller block that h lies in, or both halves. That the count of zeros tells the size of the
-// smaller block is tested, and not relied on.
-fn parts_of(base: u64, k: u32, h: u64, places: u64) -> Parts
-    requires { ⌜ Block base k × (0 < k) × (base ≤ h) × (h < base + 2 ^ k) ⌝ }
-    ensures { λ r. ⌜ (r .known ≡ h) × ((u v : ℕ → ℕ) → Settled u v (2 ^ 64) h places → Parted u v base k r) ⌝ }
+// difference h at these places only: the smaller block that h lies in and none of them is above, or both halves.
+fn parts_of(base: Word, k: u32, h: Word, places: Word) -> Parts
+    requires { ⌜ Block (num base) k × (0 < k) × (num base ≤ num h) × (num h < num base + 2 ^ k) ⌝ }
+    ensures { λ r. ⌜ (r .known ≡ h) × ((u v : ℕ → ℕ) → Settled u v (num h) (num places) → Parted u v (num base) k r) ⌝ }
 {
-    let some = places & ones(k);
-    let z = u64::leading_zeros(some);
-    if z <= 64 {
-        let t = 64 - z;
-        if t < k {
-            let low = ones(t);
-            if some <= low {
-                let at = h & (18446744073709551615 - low);
-                return Parts {
-                    k: t,
-                    low: at,
-                    high: at,
-                    known: h,
-                };
-            }
-        }
+    let t = 128 - leading_zeros(and(places, lowest(k)));
+    if t < k {
+        let at = and(h, above(t));
+        return Parts {
+            k: t,
+            low: at,
+            high: at,
+            known: h,
+        };
     }
     let j = k - 1;
     Parts {
         k: j,
         low: base,
-        high: base + (1u64 << j),
+        high: after(base, j),
         known: h,
     }
 }
 
-// The way that the block of 2^k headers from `base` on goes, which has the difference h and does not lie before `start`. Into `o`
-// and `n`, which are empty, go the rules in play that meet the block.
+// The way that the block of 2^k headers that the cube is goes, which has the difference h and does not lie before `start`. Into `o` and
+// `n`, which are empty, go the rules in play that meet the block.
 pub(crate) fn way_of(
     oc: &[u64],
     ov: &[u64],
@@ -273,25 +280,23 @@ pub(crate) fn way_of(
     nd: &[u16],
     nl: &[u64; 17],
     nm: u16,
-    start: u64,
-    base: u64,
+    start: Word,
+    cube: Cube,
     k: u32,
-    h: u64,
+    h: Word,
     o: &mut [u64; 17],
     n: &mut [u64; 17],
 ) -> Way
-    requires { ⌜ Ready (now oc) (now ov) (now od) × Ready (now nc) (now nv) (now nd) × Block base k
-        × Differs (answerOf (now oc) (now ov) (now od) (now ol) om) (answerOf (now nc) (now nv) (now nd) (now nl) nm) start base (base + 2 ^ k) h
+    requires { ⌜ Ready (wordsOf (now oc)) (wordsOf (now ov)) (now od) × Ready (wordsOf (now nc)) (wordsOf (now nv)) (now nd) × IsBlock cube k
+        × Differs (answerOf (wordsOf (now oc)) (wordsOf (now ov)) (now od) (now ol) om) (answerOf (wordsOf (now nc)) (wordsOf (now nv)) (now nd) (now nl) nm)
+        (num start) (num (cube .value)) (num (cube .value) + 2 ^ k) (num h)
         × (length (now o) ≡ 17) × ((i : ℕ) → member (now o) i ≡ false) × (length (now n) ≡ 17) × ((i : ℕ) → member (now n) i ≡ false) ⌝ }
-    ensures { λ r. ⌜ Goes (answerOf (now (oc .entry)) (now (ov .entry)) (now (od .entry)) (now (ol .entry)) om)
-        (answerOf (now (nc .entry)) (now (nv .entry)) (now (nd .entry)) (now (nl .entry)) nm)
-        (answerOf (now (oc .entry)) (now (ov .entry)) (now (od .entry)) (now (o .exit)) om)
-        (answerOf (now (nc .entry)) (now (nv .entry)) (now (nd .entry)) (now (n .exit)) nm) start base k r ⌝ }
+    ensures { λ r. ⌜ Goes (answerOf (wordsOf (now (oc .entry))) (wordsOf (now (ov .entry))) (now (od .entry)) (now (ol .entry)) om)
+        (answerOf (wordsOf (now (nc .entry))) (wordsOf (now (nv .entry))) (now (nd .entry)) (now (nl .entry)) nm)
+        (answerOf (wordsOf (now (oc .entry))) (wordsOf (now (ov .entry))) (now (od .entry)) (now (o .exit)) om)
+        (answerOf (wordsOf (now (nc .entry))) (wordsOf (now (nv .entry))) (now (nd .entry)) (now (n .exit)) nm)
+        (num start) (num (cube .value)) k r ⌝ }
 {
-    let cube = Cube {
-        care: 18446744073709551615 - ones(k),
-        value: base,
-    };
     narrow(oc, ov, ol, o, cube);
     narrow(nc, nv, nl, n, cube);
     let shape = shape_of(oc, ov, od, o, om, nc, nv, nd, n, nm, start, k, cube);
@@ -299,5 +304,5 @@ pub(crate) fn way_of(
         return Way::Piece(a, b);
     }
     let places = loose_places(oc, ov, o, om, nc, nv, n, nm, h, k);
-    Way::Parts(parts_of(base, k, h, places))
+    Way::Parts(parts_of(cube.value, k, h, places))
 }

@@ -11,8 +11,10 @@ use Rattle.rules.specs.Lists.{All}
 use Rattle.rules.specs.Replies.{passed}
 use Rattle.rules.proofs.ReplyLaws.{then-second}
 use Rattle.image.specs.Bytes.{le, num, part, bytes}
-use Rattle.image.specs.Images.{Named, Entry, entryWith, ruleIn, rulesIn, entryIn, entriesIn, listsIn, total, countIn, widthIn, entriesOf, listsOf, ruleBytes, rulesBytes, bodiesBytes, entryBytes, entriesFor, contentsBytes, bytesOf}
+use Rattle.image.specs.Formats.{wordBytes, ruleSize}
+use Rattle.image.specs.Images.{Named, Entry, entryWith, ruleIn, rulesIn, entryIn, entriesIn, listsIn, total, formatIn, countIn, widthIn, entriesOf, listsOf, ruleBytes, rulesBytes, bodiesBytes, entryBytes, entriesFor, contentsBytes, bytesOf}
 use Rattle.image.specs.Checks.{entryCheck, entriesCheck, contentsCheck, headCheck, imageCheck}
+use Rattle.image.proofs.FormatLaws.{rule-words}
 use Rattle.image.proofs.NumberLaws.{length-part}
 use Rattle.image.proofs.BareLaws.{bare-first, bare-entry, bare-head, bare-contents}
 use Rattle.image.proofs.HeadLaws.{entry-facts, head-facts}
@@ -53,20 +55,23 @@ three i j k s =
     sym (take-add i (j + k) s
     ∙ ap (λ (l : List ℕ). take i s ++ l) (take-add j k (drop i s) ∙ ap (λ (l : List ℕ). part j i s ++ take k l) (drop-drop j i s)))
 
-rule-back : (s : List ℕ) → AreBytes s → 18 ≤ length s → ruleBytes (ruleIn s) ≡ take 18 s
-rule-back s h fits =
-    (λ j. bytes-num 8 0 s h (omega arith) j ++ (bytes-num 8 8 s h (omega arith) j ++ bytes-num 2 16 s h (omega arith) j)) ∙ three 8 8 2 s
+rule-back : (fmt : ℕ) (s : List ℕ) → AreBytes s → ruleSize fmt ≤ length s → ruleBytes fmt (ruleIn fmt s) ≡ take (ruleSize fmt) s
+rule-back fmt s h fits =
+    let w : ℕ = wordBytes fmt in
+    let size : w + (w + 2) ≡ ruleSize fmt = omega (arith, rule-words fmt) in
+    (λ j. bytes-num w 0 s h (omega arith) j ++ (bytes-num w w s h (omega arith) j ++ bytes-num 2 (w + w) s h (omega arith) j)) ∙ three w w 2 s
+    ∙ ap (λ (k : ℕ). take k s) size
 
 entry-back : (s : List ℕ) → AreBytes s → 8 ≤ length s → entryBytes (entryIn s) ≡ take 8 s
 entry-back s h fits =
     (λ j. bytes-num 4 0 s h (omega arith) j ++ (bytes-num 2 4 s h (omega arith) j ++ bytes-num 2 6 s h (omega arith) j)) ∙ three 4 2 2 s
 
-pub rules-back : (n : ℕ) (s : List ℕ) → AreBytes s → 18 * n ≤ length s → rulesBytes (rulesIn n s) ≡ take (18 * n) s
+pub rules-back : (fmt n : ℕ) (s : List ℕ) → AreBytes s → ruleSize fmt * n ≤ length s → rulesBytes fmt (rulesIn fmt n s) ≡ take (ruleSize fmt * n) s
 unfolding rulesBytes rulesIn
-rules-back zero s h fits = refl
-rules-back (suc n) s h fits =
-    ap₂ (λ (x y : List ℕ). x ++ y) (rule-back s h (omega arith)) (rules-back n (drop 18 s) (bytes-drop 18 s h) (omega (arith, length-drop 18 s)))
-    ∙ glue 18 (18 * n) (18 * suc n) s (omega arith)
+rules-back fmt zero s h fits = let e : 0 ≡ ruleSize fmt * 0 = omega arith in ap (λ (k : ℕ). take k s) e
+rules-back fmt (suc n) s h fits =
+    ap₂ (λ (x y : List ℕ). x ++ y) (rule-back fmt s h (omega arith)) (rules-back fmt n (drop (ruleSize fmt) s) (bytes-drop (ruleSize fmt) s h) (omega (arith, length-drop (ruleSize fmt) s)))
+    ∙ glue (ruleSize fmt) (ruleSize fmt * n) (ruleSize fmt * suc n) s (omega arith)
 
 contents-back : (n : ℕ) (s : List ℕ) → AreBytes s → 8 * n ≤ length s → contentsBytes (entriesIn n s) ≡ take (8 * n) s
 unfolding contentsBytes entriesIn
@@ -75,28 +80,28 @@ contents-back (suc n) s h fits =
     ap₂ (λ (x y : List ℕ). x ++ y) (entry-back s h (omega arith)) (contents-back n (drop 8 s) (bytes-drop 8 s h) (omega (arith, length-drop 8 s)))
     ∙ glue 8 (8 * n) (8 * suc n) s (omega arith)
 
-bodies-back : (es : List Entry) (s : List ℕ) → AreBytes s → 18 * total es ≤ length s → bodiesBytes (listsIn es s) ≡ take (18 * total es) s
+bodies-back : (fmt : ℕ) (es : List Entry) (s : List ℕ) → AreBytes s → ruleSize fmt * total es ≤ length s → bodiesBytes fmt (listsIn fmt es s) ≡ take (ruleSize fmt * total es) s
 unfolding bodiesBytes listsIn total
-bodies-back [] s h fits = refl
-bodies-back (e ∷ es) s h fits =
-    ap₂ (λ (x y : List ℕ). x ++ y) (rules-back (e .count) s h (omega arith))
-    (bodies-back es (drop (18 * e .count) s) (bytes-drop (18 * e .count) s h) (omega (arith, length-drop (18 * e .count) s)))
-    ∙ glue (18 * e .count) (18 * total es) (18 * (e .count + total es)) s (omega arith)
+bodies-back fmt [] s h fits = let e : 0 ≡ ruleSize fmt * 0 = omega arith in ap (λ (k : ℕ). take k s) e
+bodies-back fmt (e ∷ es) s h fits =
+    ap₂ (λ (x y : List ℕ). x ++ y) (rules-back fmt (e .count) s h (omega arith))
+    (bodies-back fmt es (drop (ruleSize fmt * e .count) s) (bytes-drop (ruleSize fmt * e .count) s h) (omega (arith, length-drop (ruleSize fmt * e .count) s)))
+    ∙ glue (ruleSize fmt * e .count) (ruleSize fmt * total es) (ruleSize fmt * (e .count + total es)) s (omega arith)
 
-pub length-lists : (es : List Entry) (s : List ℕ) → length (listsIn es s) ≡ length es
+pub length-lists : (fmt : ℕ) (es : List Entry) (s : List ℕ) → length (listsIn fmt es s) ≡ length es
 unfolding listsIn
-length-lists [] s = refl
-length-lists (e ∷ es) s = ap suc (length-lists es (drop (18 * e .count) s))
+length-lists fmt [] s = refl
+length-lists fmt (e ∷ es) s = ap suc (length-lists fmt es (drop (ruleSize fmt * e .count) s))
 
 -- the entries that fine contents have are those that the writer makes
-pub entries-back : (size next least l : ℕ) (es : List Entry) (s : List ℕ) → entriesCheck size next least l es ≡ passed → entriesFor next (listsIn es s) ≡ es
+pub entries-back : (fmt size next least l : ℕ) (es : List Entry) (s : List ℕ) → entriesCheck fmt size next least l es ≡ passed → entriesFor fmt next (listsIn fmt es s) ≡ es
 unfolding entriesFor listsIn entriesCheck
-entries-back size next least l [] s f = refl
-entries-back size next least l (e ∷ es) s f =
-    let o : e .offset ≡ next = entry-facts size next least l e (bare-first (entryCheck size next least l e) _ (bare-entry size next least l e) [] f) .starts in
-    let n : length (rulesIn (e .count) s) ≡ e .count = length-rulesIn (e .count) s in
-    (λ j. entryWith (sym o j) (n j) (e .id) ∷ entriesFor (next + 18 * n j) (listsIn es (drop (18 * e .count) s)))
-    ∙ ap (λ (r : List Entry). e ∷ r) (entries-back size (next + 18 * e .count) (e .id + 1) (l + 1) es (drop (18 * e .count) s) (then-second (entryCheck size next least l e) _ [] f))
+entries-back fmt size next least l [] s f = refl
+entries-back fmt size next least l (e ∷ es) s f =
+    let o : e .offset ≡ next = entry-facts fmt size next least l e (bare-first (entryCheck fmt size next least l e) _ (bare-entry fmt size next least l e) [] f) .starts in
+    let n : length (rulesIn fmt (e .count) s) ≡ e .count = length-rulesIn fmt (e .count) s in
+    (λ j. entryWith (sym o j) (n j) (e .id) ∷ entriesFor fmt (next + ruleSize fmt * n j) (listsIn fmt es (drop (ruleSize fmt * e .count) s)))
+    ∙ ap (λ (r : List Entry). e ∷ r) (entries-back fmt size (next + ruleSize fmt * e .count) (e .id + 1) (l + 1) es (drop (ruleSize fmt * e .count) s) (then-second (entryCheck fmt size next least l e) _ [] f))
 
 head-back : (b : List ℕ) → 4 ≤ length b → b ≡ getD b 0 0 ∷ getD b 1 0 ∷ getD b 2 0 ∷ getD b 3 0 ∷ drop 4 b
 head-back [] h = absurd (not-suc-le-zero h)
@@ -105,41 +110,41 @@ head-back (x ∷ y ∷ []) h = absurd (omega arith)
 head-back (x ∷ y ∷ z ∷ []) h = absurd (omega arith)
 head-back (x ∷ y ∷ z ∷ u ∷ b) h = refl
 
-bytes-are : (w n : ℕ) (ls : List Named) (es : List Entry) → length ls ≡ n → entriesFor (4 + 8 * n) ls ≡ es
-    → bytesOf w ls ≡ 1 ∷ w ∷ n ∷ 0 ∷ (contentsBytes es ++ bodiesBytes ls)
+bytes-are : (fmt w n : ℕ) (ls : List Named) (es : List Entry) → length ls ≡ n → entriesFor fmt (4 + 8 * n) ls ≡ es
+    → bytesOf fmt w ls ≡ fmt ∷ w ∷ n ∷ 0 ∷ (contentsBytes es ++ bodiesBytes fmt ls)
 unfolding bytesOf
-bytes-are w n ls es p q =
-    (λ j. 1 ∷ w ∷ p j ∷ 0 ∷ (contentsBytes (entriesFor (4 + 8 * p j) ls) ++ bodiesBytes ls))
-    ∙ ap (λ (r : List Entry). 1 ∷ w ∷ n ∷ 0 ∷ (contentsBytes r ++ bodiesBytes ls)) q
+bytes-are fmt w n ls es p q =
+    (λ j. fmt ∷ w ∷ p j ∷ 0 ∷ (contentsBytes (entriesFor fmt (4 + 8 * p j) ls) ++ bodiesBytes fmt ls))
+    ∙ ap (λ (r : List Entry). fmt ∷ w ∷ n ∷ 0 ∷ (contentsBytes r ++ bodiesBytes fmt ls)) q
 
-rest-back : (b : List ℕ) → AreBytes b → 4 + 8 * countIn b ≤ length b → 4 + 8 * countIn b + 18 * total (entriesOf b) ≡ length b
-    → contentsBytes (entriesOf b) ++ bodiesBytes (listsOf b) ≡ drop 4 b
+rest-back : (b : List ℕ) → AreBytes b → 4 + 8 * countIn b ≤ length b → 4 + 8 * countIn b + ruleSize (formatIn b) * total (entriesOf b) ≡ length b
+    → contentsBytes (entriesOf b) ++ bodiesBytes (formatIn b) (listsOf b) ≡ drop 4 b
 unfolding entriesOf listsOf
 rest-back b h fits sum =
     let n : ℕ = countIn b in
     let es : List Entry = entriesIn n (drop 4 b) in
-    let left : length (drop (4 + 8 * n) b) ≡ 18 * total es = omega (arith, length-drop (4 + 8 * n) b, sum) in
+    let left : length (drop (4 + 8 * n) b) ≡ ruleSize (formatIn b) * total es = omega (arith, length-drop (4 + 8 * n) b, sum) in
     ap₂ (λ (x y : List ℕ). x ++ y)
     (contents-back n (drop 4 b) (bytes-drop 4 b h) (omega (arith, length-drop 4 b)))
-    (bodies-back es (drop (4 + 8 * n) b) (bytes-drop (4 + 8 * n) b h) (omega arith)
-    ∙ take-all (18 * total es) (drop (4 + 8 * n) b) (omega arith)
+    (bodies-back (formatIn b) es (drop (4 + 8 * n) b) (bytes-drop (4 + 8 * n) b h) (omega arith)
+    ∙ take-all (ruleSize (formatIn b) * total es) (drop (4 + 8 * n) b) (omega arith)
     ∙ sym (drop-drop (8 * n) 4 b))
     ∙ take-append-drop (8 * n) (drop 4 b)
 
 pub length-listsOf : (b : List ℕ) → length (listsOf b) ≡ countIn b
 unfolding listsOf entriesOf
-length-listsOf b = length-lists (entriesIn (countIn b) (drop 4 b)) (drop (4 + 8 * countIn b) b) ∙ length-entries (countIn b) (drop 4 b)
+length-listsOf b = length-lists (formatIn b) (entriesIn (countIn b) (drop 4 b)) (drop (4 + 8 * countIn b) b) ∙ length-entries (countIn b) (drop 4 b)
 
-pub entries-again : (b : List ℕ) → contentsCheck b ≡ passed → entriesFor (4 + 8 * countIn b) (listsOf b) ≡ entriesOf b
+pub entries-again : (b : List ℕ) → contentsCheck b ≡ passed → entriesFor (formatIn b) (4 + 8 * countIn b) (listsOf b) ≡ entriesOf b
 unfolding contentsCheck listsOf
-entries-again b f = entries-back (length b) (4 + 8 * countIn b) 0 1 (entriesOf b) (drop (4 + 8 * countIn b) b) f
+entries-again b f = entries-back (formatIn b) (length b) (4 + 8 * countIn b) 0 1 (entriesOf b) (drop (4 + 8 * countIn b) b) f
 
--- the bytes of an image that passed are those of its width and its lists
-pub read-write : (b : List ℕ) → AreBytes b → imageCheck b ≡ passed → bytesOf (widthIn b) (listsOf b) ≡ b
+-- the bytes of an image that passed are those of its format, its width and its lists
+pub read-write : (b : List ℕ) → AreBytes b → imageCheck b ≡ passed → bytesOf (formatIn b) (widthIn b) (listsOf b) ≡ b
 unfolding imageCheck
 read-write b h f =
     let c : contentsCheck b ≡ passed = bare-first (contentsCheck b) _ (bare-contents b) [] (then-second (headCheck b) _ [] f) in
     let k = head-facts b (bare-first (headCheck b) _ (bare-head b) [] f) in
-    bytes-are (widthIn b) (countIn b) (listsOf b) (entriesOf b) (length-listsOf b) (entries-again b c)
-    ∙ (λ j. sym (k .zeroth) j ∷ widthIn b ∷ countIn b ∷ sym (k .third) j ∷ rest-back b h (k .contents) (contents-total b c) j)
+    bytes-are (formatIn b) (widthIn b) (countIn b) (listsOf b) (entriesOf b) (length-listsOf b) (entries-again b c)
+    ∙ (λ j. formatIn b ∷ widthIn b ∷ countIn b ∷ sym (k .third) j ∷ rest-back b h (k .contents) (contents-total b c) j)
     ∙ sym (head-back b (k .least))

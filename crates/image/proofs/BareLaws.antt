@@ -1,16 +1,16 @@
 -- Checks give no values: one that is passed before another is passed as such.
 use mathlib.Core.Path.{_≡_, refl, sym}
 use mathlib.Core.List.{List, [], _∷_}
-use mathlib.Core.Bool.{Bool, true, false, _&&_}
+use mathlib.Core.Bool.{Bool, true, false}
 use Prim.Native.Nat.{ℕ, _+_, _*_}
-use lib.Dec.{leb, ltb, eqb}
+use lib.Dec.{leb, eqb}
 use lib.ListN.{length, getD}
-use Rattle.rules.specs.declared.Rule.{Rule}
+use Rattle.rules.specs.Rule.{Rule}
 use Rattle.rules.specs.Replies.{Reply, Gives, Refuses, passed, need, _then_}
-use Rattle.rules.specs.Checks.{widthCheck, sizeCheck, patternFits, ruleCheck, rulesCheck}
-use Rattle.rules.specs.Rules.{noMatch}
+use Rattle.rules.specs.Checks.{sizeCheck, ruleCheck, rulesCheck}
 use Rattle.rules.proofs.ReplyLaws.{gives-refuses}
-use Rattle.image.specs.Images.{Entry, Named, widthIn, countIn, entriesOf, listsOf}
+use Rattle.image.specs.Formats.{ruleSize, formatCheck, rangeCheck}
+use Rattle.image.specs.Images.{Entry, Named, formatIn, widthIn, countIn, entriesOf, listsOf}
 use Rattle.image.specs.Checks.{headCheck, entryCheck, entriesCheck, contentsCheck, listsCheck, bodiesCheck, imageCheck}
 
 -- where it gives anything, it is passed
@@ -30,14 +30,6 @@ pub bare-first : (a b : Reply) → Bare a → (ns : List ℕ) → (a then b) ≡
 bare-first (Gives ms) b f ns e = f ms refl
 bare-first (Refuses n l r) b f ns e = absurd (gives-refuses (sym e))
 
-pub bare-width : (w : ℕ) → Bare (widthCheck w)
-unfolding widthCheck
-bare-width w = bare-need (leb 1 w && leb w 64) 1 0 0
-
-pub bare-rule : (w l i : ℕ) (r : Rule) → Bare (ruleCheck w l i r)
-unfolding ruleCheck
-bare-rule w l i r = bare-then (need (patternFits w r) 4 l i) _ (bare-need (ltb (r .decision) noMatch) 5 l i)
-
 pub bare-rules : (w l i : ℕ) (rs : List Rule) → Bare (rulesCheck w l i rs)
 unfolding rulesCheck
 bare-rules w l i [] ns e = refl
@@ -53,28 +45,28 @@ unfolding headCheck
 bare-head b =
     bare-then (need (leb 4 (length b)) 10 0 0) _
     (bare-then (need (leb (length b) 65536) 10 0 0) _
-    (bare-then (need (eqb (getD b 0 0) 1) 11 0 0) _
+    (bare-then (formatCheck (formatIn b)) _
     (bare-then (need (eqb (getD b 3 0) 0) 11 0 0) _
-    (bare-then (widthCheck (widthIn b)) _
+    (bare-then (rangeCheck (formatIn b) (widthIn b)) _
     (bare-then (need (leb 1 (countIn b)) 12 0 0) _
     (bare-then (need (leb (countIn b) 16) 12 0 0) _ (bare-need (leb (4 + 8 * countIn b) (length b)) 12 0 0)))))))
 
-pub bare-entry : (size next least l : ℕ) (e : Entry) → Bare (entryCheck size next least l e)
+pub bare-entry : (fmt size next least l : ℕ) (e : Entry) → Bare (entryCheck fmt size next least l e)
 unfolding entryCheck
-bare-entry size next least l e =
+bare-entry fmt size next least l e =
     bare-then (need (leb least (e .id)) 13 l 0) _
     (bare-then (need (eqb (e .offset) next) 14 l 0) _
-    (bare-then (sizeCheck l (e .count)) _ (bare-need (leb (next + 18 * e .count) size) 10 l 0)))
+    (bare-then (sizeCheck l (e .count)) _ (bare-need (leb (next + ruleSize fmt * e .count) size) 10 l 0)))
 
-pub bare-entries : (size next least l : ℕ) (es : List Entry) → Bare (entriesCheck size next least l es)
+pub bare-entries : (fmt size next least l : ℕ) (es : List Entry) → Bare (entriesCheck fmt size next least l es)
 unfolding entriesCheck
-bare-entries size next least l [] ns f = bare-need (eqb next size) 10 0 0 ns f
-bare-entries size next least l (e ∷ es) ns f =
-    bare-then (entryCheck size next least l e) _ (bare-entries size (next + 18 * e .count) (e .id + 1) (l + 1) es) ns f
+bare-entries fmt size next least l [] ns f = bare-need (eqb next size) 10 0 0 ns f
+bare-entries fmt size next least l (e ∷ es) ns f =
+    bare-then (entryCheck fmt size next least l e) _ (bare-entries fmt size (next + ruleSize fmt * e .count) (e .id + 1) (l + 1) es) ns f
 
 pub bare-contents : (b : List ℕ) → Bare (contentsCheck b)
 unfolding contentsCheck
-bare-contents b = bare-entries (length b) (4 + 8 * countIn b) 0 1 (entriesOf b)
+bare-contents b = bare-entries (formatIn b) (length b) (4 + 8 * countIn b) 0 1 (entriesOf b)
 
 pub bare-bodies : (b : List ℕ) → Bare (bodiesCheck b)
 unfolding bodiesCheck

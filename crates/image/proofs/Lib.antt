@@ -1,4 +1,5 @@
 -- The laws of images, for this crate's proofs and for the crates above it.
+pub mod FormatLaws
 pub mod NumberLaws
 pub mod BareLaws
 pub mod HeadLaws

@@ -10,52 +10,53 @@ use lib.Seq.{drop-drop}
 use Rattle.rules.specs.Rules.{Valid}
 use Rattle.rules.specs.Lists.{All}
 use Rattle.rules.specs.Replies.{passed}
-use Rattle.rules.specs.Checks.{rulesCheck}
+use Rattle.rules.specs.Checks.{widest, rulesCheck}
 use Rattle.rules.proofs.ReplyLaws.{then-second}
 use Rattle.rules.proofs.CheckLaws.{rules-valid}
 use Rattle.image.specs.declared.places.Place.{Place}
 use Rattle.image.specs.Bytes.{num}
-use Rattle.image.specs.Images.{Entry, widthIn, countIn, entriesOf, rulesIn, listsIn, listsOf}
+use Rattle.image.specs.Formats.{ruleSize}
+use Rattle.image.specs.Images.{Entry, formatIn, widthIn, countIn, entriesOf, rulesIn, listsIn, listsOf}
 use Rattle.image.specs.Checks.{entryCheck, entriesCheck, listsCheck, headCheck, contentsCheck, bodiesCheck, imageCheck}
 use Rattle.image.specs.Places.{placeIn, placeAt, pickPlace, placeOf, listWith}
 use Rattle.image.proofs.BareLaws.{bare-first, bare-entry, bare-rules, bare-contents}
-use Rattle.image.proofs.HeadLaws.{entry-facts}
+use Rattle.image.proofs.HeadLaws.{entry-facts, head-narrow}
 use Rattle.image.proofs.SeekLaws.{image-facts, place-start, place-here, length-rulesIn}
 
 -- ---- the rules at a place
 
-abbrev Good : ℕ → List ℕ → Place → Type 0
-Good w b p = (p .count ≤ 1024) × All (Valid w) (rulesIn (p .count) (drop (p .from) b))
+abbrev Good : (fmt w : ℕ) → List ℕ → Place → Type 0
+Good fmt w b p = (p .count ≤ 1024) × All (Valid w) (rulesIn fmt (p .count) (drop (p .from) b))
 
-pick-good : (w : ℕ) (b : List ℕ) (t : Bool) (x y : Place) → Good w b x → Good w b y → Good w b (pickPlace t x y)
-pick-good w b true x y p q = p
-pick-good w b false x y p q = q
+pick-good : (fmt w : ℕ) (b : List ℕ) (t : Bool) (x y : Place) → Good fmt w b x → Good fmt w b y → Good fmt w b (pickPlace t x y)
+pick-good fmt w b true x y p q = p
+pick-good fmt w b false x y p q = q
 
-place-good : (w size next least l k id : ℕ) (b : List ℕ) (es : List Entry) → entriesCheck size next least l es ≡ passed
-    → listsCheck w k (listsIn es (drop next b)) ≡ passed → Good w b (placeIn id next es)
+place-good : (fmt w size next least l k id : ℕ) (b : List ℕ) (es : List Entry) → entriesCheck fmt size next least l es ≡ passed
+    → listsCheck w k (listsIn fmt es (drop next b)) ≡ passed → Good fmt w b (placeIn fmt id next es)
 unfolding entriesCheck listsCheck listsIn placeIn rulesIn
-place-good w size next least l k id b [] f g = (omega arith, tt)
-place-good w size next least l k id b (e ∷ es) f g =
-    pick-good w b (eqb (e .id) id) (placeAt true next (e .count)) (placeIn id (next + 18 * e .count) es) (
-      entry-facts size next least l e (bare-first (entryCheck size next least l e) _ (bare-entry size next least l e) [] f) .few,
-      rules-valid w k 1 (rulesIn (e .count) (drop next b))
-          (bare-first (rulesCheck w k 1 (rulesIn (e .count) (drop next b))) _ (bare-rules w k 1 (rulesIn (e .count) (drop next b))) [] g),
+place-good fmt w size next least l k id b [] f g = (omega arith, tt)
+place-good fmt w size next least l k id b (e ∷ es) f g =
+    let rs = rulesIn fmt (e .count) (drop next b) in
+    let z : ℕ = ruleSize fmt * e .count in
+    pick-good fmt w b (eqb (e .id) id) (placeAt true next (e .count)) (placeIn fmt id (next + z) es) (
+      entry-facts fmt size next least l e (bare-first (entryCheck fmt size next least l e) _ (bare-entry fmt size next least l e) [] f) .few,
+      rules-valid w k 1 rs (bare-first (rulesCheck w k 1 rs) _ (bare-rules w k 1 rs) [] g),
     )
-    (place-good w size (next + 18 * e .count) (e .id + 1) (l + 1) (k + 1) id b es
-    (then-second (entryCheck size next least l e) _ [] f)
-    (subst (λ (s : List ℕ). listsCheck w (k + 1) (listsIn es s) ≡ passed) (drop-drop (18 * e .count) next b)
-    (then-second (rulesCheck w k 1 (rulesIn (e .count) (drop next b))) _ [] g)))
+    (place-good fmt w size (next + z) (e .id + 1) (l + 1) (k + 1) id b es
+    (then-second (entryCheck fmt size next least l e) _ [] f)
+    (subst (λ (s : List ℕ). listsCheck w (k + 1) (listsIn fmt es s) ≡ passed) (drop-drop z next b) (then-second (rulesCheck w k 1 rs) _ [] g)))
 
 -- ---- the list with an id
 
 pub length-with : (b : List ℕ) (id : ℕ) → length (listWith b id) ≡ placeOf b id .count
 unfolding listWith
-length-with b id = length-rulesIn (placeOf b id .count) (drop (placeOf b id .from) b)
+length-with b id = length-rulesIn (formatIn b) (placeOf b id .count) (drop (placeOf b id .from) b)
 
 -- what a list has to have, whatever id is asked for
 pub record ListFacts (b : List ℕ) (id : ℕ) : Type 0 where
   pub least : 1 ≤ widthIn b
-  pub most : widthIn b ≤ 64
+  pub most : widthIn b ≤ widest
   pub few : placeOf b id .count ≤ 1024
   pub valid : All (Valid (widthIn b)) (listWith b id)
 
@@ -65,17 +66,17 @@ list-facts b id f =
     let i = image-facts b [] f in
     let rest = then-second (headCheck b) _ [] f in
     let good =
-    place-good (widthIn b) (length b) (4 + 8 * countIn b) 0 1 1 id b (entriesOf b) (bare-first (contentsCheck b) _ (bare-contents b) [] rest)
+    place-good (formatIn b) (widthIn b) (length b) (4 + 8 * countIn b) 0 1 1 id b (entriesOf b) (bare-first (contentsCheck b) _ (bare-contents b) [] rest)
     (then-second (contentsCheck b) _ [] rest)
     in
-    record { least = i .head .wide; most = i .head .narrow; few = good .0; valid = good .1 }
+    record { least = i .head .wide; most = head-narrow b (i .head); few = good .0; valid = good .1 }
 
 -- ---- the first list
 
 first-place : (b : List ℕ) → 1 ≤ countIn b → placeOf b (num 2 10 b) ≡ placeAt true (4 + 8 * countIn b) (num 2 8 b)
 first-place b h =
     place-start b (num 2 10 b) (countIn b) refl
-    ∙ place-here (num 2 10 b) (countIn b) 4 (4 + 8 * countIn b) (num 2 8 b) (num 2 10 b) b refl refl (omega arith) refl
+    ∙ place-here (formatIn b) (num 2 10 b) (countIn b) 4 (4 + 8 * countIn b) (num 2 8 b) (num 2 10 b) b refl refl (omega arith) refl
 
 -- an accepted image has a first entry, and the id in it names a list: the one whose body stands right after the contents
 module _ (b : List ℕ) (f : imageCheck b ≡ passed) where
@@ -85,6 +86,6 @@ module _ (b : List ℕ) (f : imageCheck b ≡ passed) where
   pub first-found : placeOf b (num 2 10 b) .found ≡ true
   first-found = ap (λ (p : Place). p .found) (first-place b (image-facts b [] f .head .some))
 
-  pub first-body : listWith b (num 2 10 b) ≡ rulesIn (num 2 8 b) (drop (4 + 8 * countIn b) b)
+  pub first-body : listWith b (num 2 10 b) ≡ rulesIn (formatIn b) (num 2 8 b) (drop (4 + 8 * countIn b) b)
   unfolding listWith
-  first-body = ap (λ (p : Place). rulesIn (p .count) (drop (p .from) b)) (first-place b (image-facts b [] f .head .some))
+  first-body = ap (λ (p : Place). rulesIn (formatIn b) (p .count) (drop (p .from) b)) (first-place b (image-facts b [] f .head .some))

@@ -8,17 +8,18 @@ use lib.ListN.{length, drop}
 use lib.Seq.{drop-drop}
 use borrow.Author.Tests.{eq-eqb, ne-eqb, le-leb, eqb-true}
 use lib.Dec.{eqb}
-use Rattle.rules.specs.declared.Rule.{Rule}
+use Rattle.rules.specs.Rule.{Rule}
 use Rattle.rules.specs.declared.Refusal.{Refusal}
 use Rattle.rules.specs.declared.Verdict.{Verdict}
 use Rattle.rules.specs.Replies.{Refuses, passed, _then_, verdictReply}
-use Rattle.rules.specs.Checks.{ruleCheck, rulesCheck}
+use Rattle.rules.specs.Checks.{widest, ruleCheck, rulesCheck}
 use Rattle.rules.specs.Calls.{checkRule}
-use Rattle.rules.proofs.Tests.{true-and}
+use Rattle.words.proofs.Tests.{true-and}
 use Rattle.rules.proofs.ReplyLaws.{verdict-stop, fine-next, need-passed, then-next, then-second}
 use Rattle.rules.proofs.CheckLaws.{width-yes}
 use Rattle.image.specs.Bytes.{num}
-use Rattle.image.specs.Images.{Entry, ruleIn, rulesIn, entryIn, entriesIn, listsIn, total, countIn, widthIn, entriesOf, listsOf}
+use Rattle.image.specs.Formats.{ruleSize}
+use Rattle.image.specs.Images.{Entry, ruleIn, rulesIn, entryIn, entriesIn, listsIn, total, formatIn, countIn, widthIn, entriesOf, listsOf}
 use Rattle.image.specs.Checks.{entryCheck, entriesCheck, listsCheck, contentsCheck, headCheck, bodiesCheck, imageCheck}
 use Rattle.image.proofs.NumberLaws.{num-in}
 use Rattle.image.proofs.HeadLaws.{entry-facts}
@@ -26,87 +27,93 @@ use Rattle.image.proofs.HeadLaws.{entry-facts}
 less-one : (n : ℕ) → suc n - 1 ≡ n
 less-one n = omega arith
 
-pub rules-step : (n : ℕ) (s : List ℕ) → 0 < n → rulesIn n s ≡ ruleIn s ∷ rulesIn (n - 1) (drop 18 s)
+pub rules-step : (fmt n : ℕ) (s : List ℕ) → 0 < n → rulesIn fmt n s ≡ ruleIn fmt s ∷ rulesIn fmt (n - 1) (drop (ruleSize fmt) s)
 unfolding rulesIn
-rules-step zero s h = absurd (not-suc-le-zero h)
-rules-step (suc n) s h = ap (λ (k : ℕ). ruleIn s ∷ rulesIn k (drop 18 s)) (sym (less-one n))
+rules-step fmt zero s h = absurd (not-suc-le-zero h)
+rules-step fmt (suc n) s h = ap (λ (k : ℕ). ruleIn fmt s ∷ rulesIn fmt k (drop (ruleSize fmt) s)) (sym (less-one n))
 
 pub entries-step : (n : ℕ) (s : List ℕ) → 0 < n → entriesIn n s ≡ entryIn s ∷ entriesIn (n - 1) (drop 8 s)
 unfolding entriesIn
 entries-step zero s h = absurd (not-suc-le-zero h)
 entries-step (suc n) s h = ap (λ (k : ℕ). entryIn s ∷ entriesIn k (drop 8 s)) (sym (less-one n))
 
-module _ (w l r n at : ℕ) (b : List ℕ) where
-  rules-turn : 0 < n → rulesCheck w l r (rulesIn n (drop at b))
-      ≡ (ruleCheck w l r (ruleIn (drop at b)) then rulesCheck w l (r + 1) (rulesIn (n - 1) (drop (at + 18) b)))
+module _ (fmt w l r n at : ℕ) (b : List ℕ) where
+  rules-turn : 0 < n → rulesCheck w l r (rulesIn fmt n (drop at b))
+      ≡ (ruleCheck w l r (ruleIn fmt (drop at b)) then rulesCheck w l (r + 1) (rulesIn fmt (n - 1) (drop (at + ruleSize fmt) b)))
   unfolding rulesCheck
   rules-turn h =
-      ap (rulesCheck w l r) (rules-step n (drop at b) h)
-      ∙ ap (λ (s : List ℕ). ruleCheck w l r (ruleIn (drop at b)) then rulesCheck w l (r + 1) (rulesIn (n - 1) s)) (drop-drop 18 at b)
+      ap (rulesCheck w l r) (rules-step fmt n (drop at b) h)
+      ∙ ap (λ (s : List ℕ). ruleCheck w l r (ruleIn fmt (drop at b)) then rulesCheck w l (r + 1) (rulesIn fmt (n - 1) s)) (drop-drop (ruleSize fmt) at b)
 
-  pub rules-stop : (v : Verdict) {x : Refusal} → 0 < n → verdictReply v ≡ ruleCheck w l r (ruleIn (drop at b)) → v ≡ Verdict.Refused x
-      → rulesCheck w l r (rulesIn n (drop at b)) ≡ verdictReply v
+  pub rules-stop : (v : Verdict) {x : Refusal} → 0 < n → verdictReply v ≡ ruleCheck w l r (ruleIn fmt (drop at b)) → v ≡ Verdict.Refused x
+      → rulesCheck w l r (rulesIn fmt n (drop at b)) ≡ verdictReply v
   rules-stop v h p q = rules-turn h ∙ verdict-stop v _ _ p q
 
-  pub rules-pass : (v : Verdict) → 0 < n → verdictReply v ≡ ruleCheck w l r (ruleIn (drop at b)) → v ≡ Verdict.Fine
-      → rulesCheck w l r (rulesIn n (drop at b)) ≡ rulesCheck w l (r + 1) (rulesIn (n - 1) (drop (at + 18) b))
-  rules-pass v h p q = rules-turn h ∙ fine-next v _ _ p q
+  pub rules-pass : (v : Verdict) (step : ℕ) → 0 < n → verdictReply v ≡ ruleCheck w l r (ruleIn fmt (drop at b)) → v ≡ Verdict.Fine → step ≡ ruleSize fmt
+      → rulesCheck w l r (rulesIn fmt n (drop at b)) ≡ rulesCheck w l (r + 1) (rulesIn fmt (n - 1) (drop (at + step) b))
+  rules-pass v step h p q e =
+      rules-turn h ∙ fine-next v _ _ p q ∙ ap (λ (k : ℕ). rulesCheck w l (r + 1) (rulesIn fmt (n - 1) (drop (at + k) b))) (sym e)
 
-  pub rules-end : n ≡ 0 → rulesCheck w l r (rulesIn n (drop at b)) ≡ passed
+  pub rules-end : n ≡ 0 → rulesCheck w l r (rulesIn fmt n (drop at b)) ≡ passed
   unfolding rulesCheck rulesIn
-  rules-end e = ap (λ (k : ℕ). rulesCheck w l r (rulesIn k (drop at b))) e
+  rules-end e = ap (λ (k : ℕ). rulesCheck w l r (rulesIn fmt k (drop at b))) e
 
-module _ (size next least l n at : ℕ) (b : List ℕ) where
-  entries-turn : 0 < n → entriesCheck size next least l (entriesIn n (drop at b))
-      ≡ (entryCheck size next least l (entryIn (drop at b))
-      then entriesCheck size (next + 18 * num 2 (at + 4) b) (num 2 (at + 6) b + 1) (l + 1) (entriesIn (n - 1) (drop (at + 8) b)))
+module _ (fmt size next least l n at : ℕ) (b : List ℕ) where
+  entries-turn : 0 < n → entriesCheck fmt size next least l (entriesIn n (drop at b))
+      ≡ (entryCheck fmt size next least l (entryIn (drop at b))
+      then entriesCheck fmt size (next + ruleSize fmt * num 2 (at + 4) b) (num 2 (at + 6) b + 1) (l + 1) (entriesIn (n - 1) (drop (at + 8) b)))
   unfolding entriesCheck
   entries-turn h =
-      ap (entriesCheck size next least l) (entries-step n (drop at b) h)
-      ∙ (λ j. entryCheck size next least l (entryIn (drop at b))
-      then entriesCheck size (next + 18 * num-in 2 at 4 b j) (num-in 2 at 6 b j + 1) (l + 1) (entriesIn (n - 1) (drop-drop 8 at b j)))
+      ap (entriesCheck fmt size next least l) (entries-step n (drop at b) h)
+      ∙ (λ j. entryCheck fmt size next least l (entryIn (drop at b))
+      then entriesCheck fmt size (next + ruleSize fmt * num-in 2 at 4 b j) (num-in 2 at 6 b j + 1) (l + 1) (entriesIn (n - 1) (drop-drop 8 at b j)))
 
-  pub entries-stop : (v : Verdict) {x : Refusal} → 0 < n → verdictReply v ≡ entryCheck size next least l (entryIn (drop at b)) → v ≡ Verdict.Refused x
-      → entriesCheck size next least l (entriesIn n (drop at b)) ≡ verdictReply v
+  pub entries-stop : (v : Verdict) {x : Refusal} → 0 < n → verdictReply v ≡ entryCheck fmt size next least l (entryIn (drop at b)) → v ≡ Verdict.Refused x
+      → entriesCheck fmt size next least l (entriesIn n (drop at b)) ≡ verdictReply v
   entries-stop v h p q = entries-turn h ∙ verdict-stop v _ _ p q
 
-  pub entries-pass : (v : Verdict) (count id : ℕ) → 0 < n → verdictReply v ≡ entryCheck size next least l (entryIn (drop at b)) → v ≡ Verdict.Fine
-      → count ≡ num 2 (at + 4) b → id ≡ num 2 (at + 6) b
-      → entriesCheck size next least l (entriesIn n (drop at b))
-      ≡ entriesCheck size (next + 18 * count) (id + 1) (l + 1) (entriesIn (n - 1) (drop (at + 8) b))
-  entries-pass v count id h p q x y =
+  pub entries-pass : (v : Verdict) (count id step : ℕ) → 0 < n → verdictReply v ≡ entryCheck fmt size next least l (entryIn (drop at b)) → v ≡ Verdict.Fine
+      → count ≡ num 2 (at + 4) b → id ≡ num 2 (at + 6) b → step ≡ ruleSize fmt * count
+      → entriesCheck fmt size next least l (entriesIn n (drop at b))
+      ≡ entriesCheck fmt size (next + step) (id + 1) (l + 1) (entriesIn (n - 1) (drop (at + 8) b))
+  entries-pass v count id step h p q x y z =
       entries-turn h ∙ fine-next v _ _ p q
-      ∙ (λ j. entriesCheck size (next + 18 * sym x j) (sym y j + 1) (l + 1) (entriesIn (n - 1) (drop (at + 8) b)))
+      ∙ (λ j. entriesCheck fmt size (next + ruleSize fmt * sym x j) (sym y j + 1) (l + 1) (entriesIn (n - 1) (drop (at + 8) b)))
+      ∙ ap (λ (k : ℕ). entriesCheck fmt size (next + k) (id + 1) (l + 1) (entriesIn (n - 1) (drop (at + 8) b))) (sym z)
 
-  pub entries-bad : n ≡ 0 → (next ≡ size → ⊥) → entriesCheck size next least l (entriesIn n (drop at b)) ≡ Refuses 10 0 0
+  pub entries-bad : n ≡ 0 → (next ≡ size → ⊥) → entriesCheck fmt size next least l (entriesIn n (drop at b)) ≡ Refuses 10 0 0
   unfolding entriesCheck entriesIn
-  entries-bad e h = ap (λ (k : ℕ). entriesCheck size next least l (entriesIn k (drop at b))) e ∙ simp ne-eqb
+  entries-bad e h = ap (λ (k : ℕ). entriesCheck fmt size next least l (entriesIn k (drop at b))) e ∙ simp ne-eqb
 
-  pub entries-end : n ≡ 0 → next ≡ size → entriesCheck size next least l (entriesIn n (drop at b)) ≡ passed
+  pub entries-end : n ≡ 0 → next ≡ size → entriesCheck fmt size next least l (entriesIn n (drop at b)) ≡ passed
   unfolding entriesCheck entriesIn
-  entries-end e h = ap (λ (k : ℕ). entriesCheck size next least l (entriesIn k (drop at b))) e ∙ simp eq-eqb
+  entries-end e h = ap (λ (k : ℕ). entriesCheck fmt size next least l (entriesIn k (drop at b))) e ∙ simp eq-eqb
 
 -- the body of an entry that passed is within the image
-pub next-fits : (size next least l at : ℕ) (b : List ℕ) (v : Verdict) (count : ℕ) → verdictReply v ≡ entryCheck size next least l (entryIn (drop at b)) → v ≡ Verdict.Fine
-    → count ≡ num 2 (at + 4) b → next + 18 * count ≤ size
-next-fits size next least l at b v count p q e =
-    omega (arith, entry-facts size next least l (entryIn (drop at b)) (sym p ∙ ap verdictReply q), num-in 2 at 4 b)
+pub next-fits : (fmt size next least l at : ℕ) (b : List ℕ) (v : Verdict) (count : ℕ) → verdictReply v ≡ entryCheck fmt size next least l (entryIn (drop at b)) → v ≡ Verdict.Fine
+    → count ≡ num 2 (at + 4) b → next + ruleSize fmt * count ≤ size
+next-fits fmt size next least l at b v count p q e =
+    omega (
+      arith,
+      entry-facts fmt size next least l (entryIn (drop at b)) (sym p ∙ ap verdictReply q),
+      ap (λ (k : ℕ). ruleSize fmt * k) (e ∙ sym (num-in 2 at 4 b)),
+    )
 
 pub contents-start : (b : List ℕ) (n : ℕ) → n ≡ countIn b
-    → contentsCheck b ≡ entriesCheck (length b) (4 + 8 * n) 0 1 (entriesIn n (drop 4 b))
+    → contentsCheck b ≡ entriesCheck (formatIn b) (length b) (4 + 8 * n) 0 1 (entriesIn n (drop 4 b))
 unfolding contentsCheck entriesOf
-contents-start b n e = ap (λ (k : ℕ). entriesCheck (length b) (4 + 8 * k) 0 1 (entriesIn k (drop 4 b))) (sym e)
+contents-start b n e = ap (λ (k : ℕ). entriesCheck (formatIn b) (length b) (4 + 8 * k) 0 1 (entriesIn k (drop 4 b))) (sym e)
 
 -- what fine contents add up to
-pub entries-total : (size next least l : ℕ) (es : List Entry) → entriesCheck size next least l es ≡ passed → next + 18 * total es ≡ size
+pub entries-total : (fmt size next least l : ℕ) (es : List Entry) → entriesCheck fmt size next least l es ≡ passed → next + ruleSize fmt * total es ≡ size
 unfolding entriesCheck total
-entries-total size next least l [] f = omega (arith, eqb-true next size (need-passed (eqb next size) 10 0 0 f))
-entries-total size next least l (e ∷ es) f =
-    omega (arith, entries-total size (next + 18 * e .count) (e .id + 1) (l + 1) es (then-second (entryCheck size next least l e) _ [] f))
+entries-total fmt size next least l [] f = omega (arith, eqb-true next size (need-passed (eqb next size) 10 0 0 f))
+entries-total fmt size next least l (e ∷ es) f =
+    omega (arith, entries-total fmt size (next + ruleSize fmt * e .count) (e .id + 1) (l + 1) es (then-second (entryCheck fmt size next least l e) _ [] f))
 
-pub contents-total : (b : List ℕ) → contentsCheck b ≡ passed → 4 + 8 * countIn b + 18 * total (entriesOf b) ≡ length b
+pub contents-total : (b : List ℕ) → contentsCheck b ≡ passed → 4 + 8 * countIn b + ruleSize (formatIn b) * total (entriesOf b) ≡ length b
 unfolding contentsCheck
-contents-total b f = entries-total (length b) (4 + 8 * countIn b) 0 1 (entriesOf b) f
+contents-total b f = entries-total (formatIn b) (length b) (4 + 8 * countIn b) 0 1 (entriesOf b) f
 
 pub total-step : (n at : ℕ) (b : List ℕ) → 0 < n
     → total (entriesIn n (drop at b)) ≡ num 2 (at + 4) b + total (entriesIn (n - 1) (drop (at + 8) b))
@@ -114,42 +121,53 @@ unfolding total
 total-step n at b h =
     ap total (entries-step n (drop at b) h) ∙ (λ j. num-in 2 at 4 b j + total (entriesIn (n - 1) (drop-drop 8 at b j)))
 
+-- the same in bytes
+pub size-step : (fmt n at count : ℕ) (b : List ℕ) → count ≡ num 2 (at + 4) b → 0 < n
+    → ruleSize fmt * total (entriesIn n (drop at b)) ≡ ruleSize fmt * count + ruleSize fmt * total (entriesIn (n - 1) (drop (at + 8) b))
+size-step fmt n at count b e h =
+    let rest : ℕ = total (entriesIn (n - 1) (drop (at + 8) b)) in
+    let spread : ruleSize fmt * (count + rest) ≡ ruleSize fmt * count + ruleSize fmt * rest = omega arith in
+    ap (λ (k : ℕ). ruleSize fmt * k) (total-step n at b h ∙ ap (λ (k : ℕ). k + rest) (sym e)) ∙ spread
+
 pub bodies-start : (b : List ℕ) (w n : ℕ) → w ≡ widthIn b → n ≡ countIn b
-    → bodiesCheck b ≡ listsCheck w 1 (listsIn (entriesIn n (drop 4 b)) (drop (4 + 8 * n) b))
+    → bodiesCheck b ≡ listsCheck w 1 (listsIn (formatIn b) (entriesIn n (drop 4 b)) (drop (4 + 8 * n) b))
 unfolding bodiesCheck listsOf entriesOf
-bodies-start b w n p q = λ j. listsCheck (sym p j) 1 (listsIn (entriesIn (sym q j) (drop 4 b)) (drop (4 + 8 * sym q j) b))
+bodies-start b w n p q = λ j. listsCheck (sym p j) 1 (listsIn (formatIn b) (entriesIn (sym q j) (drop 4 b)) (drop (4 + 8 * sym q j) b))
 
-pub total-start : (b : List ℕ) (n : ℕ) → n ≡ countIn b → 4 + 8 * countIn b + 18 * total (entriesOf b) ≡ length b
-    → 4 + 8 * n + 18 * total (entriesIn n (drop 4 b)) ≡ length b
+pub total-start : (b : List ℕ) (n : ℕ) → n ≡ countIn b → 4 + 8 * countIn b + ruleSize (formatIn b) * total (entriesOf b) ≡ length b
+    → 4 + 8 * n + ruleSize (formatIn b) * total (entriesIn n (drop 4 b)) ≡ length b
 unfolding entriesOf
-total-start b n e h = ap (λ (k : ℕ). 4 + 8 * k + 18 * total (entriesIn k (drop 4 b))) e ∙ h
+total-start b n e h = ap (λ (k : ℕ). 4 + 8 * k + ruleSize (formatIn b) * total (entriesIn k (drop 4 b))) e ∙ h
 
-module _ (w l n at from count : ℕ) (b : List ℕ) (is : count ≡ num 2 (at + 4) b) where
-  lists-turn : 0 < n → listsCheck w l (listsIn (entriesIn n (drop at b)) (drop from b))
-      ≡ (rulesCheck w l 1 (rulesIn count (drop from b))
-      then listsCheck w (l + 1) (listsIn (entriesIn (n - 1) (drop (at + 8) b)) (drop (from + 18 * count) b)))
+module _ (fmt w l n at from count : ℕ) (b : List ℕ) (is : count ≡ num 2 (at + 4) b) where
+  lists-turn : 0 < n → listsCheck w l (listsIn fmt (entriesIn n (drop at b)) (drop from b))
+      ≡ (rulesCheck w l 1 (rulesIn fmt count (drop from b))
+      then listsCheck w (l + 1) (listsIn fmt (entriesIn (n - 1) (drop (at + 8) b)) (drop (from + ruleSize fmt * count) b)))
   unfolding listsCheck listsIn
   lists-turn h =
-      ap (λ (es : List Entry). listsCheck w l (listsIn es (drop from b))) (entries-step n (drop at b) h)
-      ∙ (λ j. rulesCheck w l 1 (rulesIn (same j) (drop from b))
-      then listsCheck w (l + 1) (listsIn (entriesIn (n - 1) (drop-drop 8 at b j)) (drop (18 * same j) (drop from b))))
-      ∙ ap (λ (s : List ℕ). rulesCheck w l 1 (rulesIn count (drop from b)) then listsCheck w (l + 1) (listsIn (entriesIn (n - 1) (drop (at + 8) b)) s)) (drop-drop (18 * count) from b)
+      ap (λ (es : List Entry). listsCheck w l (listsIn fmt es (drop from b))) (entries-step n (drop at b) h)
+      ∙ (λ j. rulesCheck w l 1 (rulesIn fmt (same j) (drop from b))
+      then listsCheck w (l + 1) (listsIn fmt (entriesIn (n - 1) (drop-drop 8 at b j)) (drop (ruleSize fmt * same j) (drop from b))))
+      ∙ ap (λ (s : List ℕ). rulesCheck w l 1 (rulesIn fmt count (drop from b)) then listsCheck w (l + 1) (listsIn fmt (entriesIn (n - 1) (drop (at + 8) b)) s)) (drop-drop (ruleSize fmt * count) from b)
     where
       same : num 2 4 (drop at b) ≡ count
       same = num-in 2 at 4 b ∙ sym is
 
-  pub lists-stop : (v : Verdict) {x : Refusal} → 0 < n → verdictReply v ≡ rulesCheck w l 1 (rulesIn count (drop from b)) → v ≡ Verdict.Refused x
-      → listsCheck w l (listsIn (entriesIn n (drop at b)) (drop from b)) ≡ verdictReply v
+  pub lists-stop : (v : Verdict) {x : Refusal} → 0 < n → verdictReply v ≡ rulesCheck w l 1 (rulesIn fmt count (drop from b)) → v ≡ Verdict.Refused x
+      → listsCheck w l (listsIn fmt (entriesIn n (drop at b)) (drop from b)) ≡ verdictReply v
   lists-stop v h p q = lists-turn h ∙ verdict-stop v _ _ p q
 
-  pub lists-pass : (v : Verdict) → 0 < n → verdictReply v ≡ rulesCheck w l 1 (rulesIn count (drop from b)) → v ≡ Verdict.Fine
-      → listsCheck w l (listsIn (entriesIn n (drop at b)) (drop from b))
-      ≡ listsCheck w (l + 1) (listsIn (entriesIn (n - 1) (drop (at + 8) b)) (drop (from + 18 * count) b))
-  lists-pass v h p q = lists-turn h ∙ fine-next v _ _ p q
+  pub lists-pass : (v : Verdict) (step : ℕ) → 0 < n → verdictReply v ≡ rulesCheck w l 1 (rulesIn fmt count (drop from b)) → v ≡ Verdict.Fine
+      → step ≡ ruleSize fmt * count
+      → listsCheck w l (listsIn fmt (entriesIn n (drop at b)) (drop from b))
+      ≡ listsCheck w (l + 1) (listsIn fmt (entriesIn (n - 1) (drop (at + 8) b)) (drop (from + step) b))
+  lists-pass v step h p q e =
+      lists-turn h ∙ fine-next v _ _ p q
+      ∙ ap (λ (k : ℕ). listsCheck w (l + 1) (listsIn fmt (entriesIn (n - 1) (drop (at + 8) b)) (drop (from + k) b))) (sym e)
 
-pub lists-end : (w l n at from : ℕ) (b : List ℕ) → n ≡ 0 → listsCheck w l (listsIn (entriesIn n (drop at b)) (drop from b)) ≡ passed
+pub lists-end : (fmt w l n at from : ℕ) (b : List ℕ) → n ≡ 0 → listsCheck w l (listsIn fmt (entriesIn n (drop at b)) (drop from b)) ≡ passed
 unfolding listsCheck listsIn entriesIn
-lists-end w l n at from b e = ap (λ (k : ℕ). listsCheck w l (listsIn (entriesIn k (drop at b)) (drop from b))) e
+lists-end fmt w l n at from b e = ap (λ (k : ℕ). listsCheck w l (listsIn fmt (entriesIn k (drop at b)) (drop from b))) e
 
 module _ (b : List ℕ) where
   pub image-head : (v : Verdict) {x : Refusal} → verdictReply v ≡ headCheck b → v ≡ Verdict.Refused x → verdictReply v ≡ imageCheck b
@@ -167,6 +185,6 @@ module _ (b : List ℕ) where
   image-bodies h c v p q r s t = t ∙ sym (fine-next h _ _ p q ∙ fine-next c _ _ r s)
 
 -- a rule of a good width is checked as in a list
-pub in-width : (w l i : ℕ) (r : Rule) → 1 ≤ w → w ≤ 64 → checkRule w l i r ≡ ruleCheck w l i r
+pub in-width : (w l i : ℕ) (r : Rule) → 1 ≤ w → w ≤ widest → checkRule w l i r ≡ ruleCheck w l i r
 unfolding checkRule
-in-width w l i r p q = then-next _ _ (width-yes w (true-and (le-leb 1 w p) (le-leb w 64 q)))
+in-width w l i r p q = then-next _ _ (width-yes w (true-and (le-leb 1 w p) (le-leb w widest q)))

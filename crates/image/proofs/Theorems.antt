@@ -8,16 +8,18 @@ use native.Mathlib.Omega.{arith}
 use lib.Dec.{eqb}
 use lib.ListN.{length, getD, take, drop, length-drop}
 use lib.Seq.{drop-drop}
-use Rattle.rules.specs.declared.Rule.{Rule}
+use Rattle.rules.specs.Rule.{Rule}
 use Rattle.rules.specs.Rules.{rule}
 use Rattle.rules.specs.Replies.{Reply, passed, unlessRefused}
 use Rattle.rules.proofs.ReplyLaws.{then-second}
 use Rattle.image.specs.declared.places.Place.{Place}
 use Rattle.image.specs.Bytes.{part, le}
-use Rattle.image.specs.Images.{Named, Entry, ruleIn, rulesIn, listsIn, total, countIn, entriesOf, listsOf, rulesBytes}
+use Rattle.image.specs.Formats.{wordBytes, ruleSize}
+use Rattle.image.specs.Images.{Named, Entry, ruleIn, rulesIn, listsIn, total, formatIn, countIn, entriesOf, listsOf, rulesBytes}
 use Rattle.image.specs.Checks.{entryCheck, entriesCheck, headCheck, contentsCheck, imageCheck}
 use Rattle.image.specs.Places.{placeIn, placeAt, pickPlace, placeOf, listWith}
 use Rattle.image.specs.Calls.{idCheck, bodyOf}
+use Rattle.image.proofs.FormatLaws.{rule-words}
 use Rattle.image.proofs.BareLaws.{bare-first, bare-image, bare-contents, bare-entry}
 use Rattle.image.proofs.HeadLaws.{entry-facts}
 use Rattle.image.proofs.SeekLaws.{image-facts, place-fits}
@@ -34,25 +36,25 @@ unfoldable pub rulesNamed : (id : ℕ) → List Named → List Rule
 rulesNamed id [] = []
 rulesNamed id (l ∷ ls) = pickRules (eqb (l .id) id) (l .rules) (rulesNamed id ls)
 
-at-place : List ℕ → Place → List Rule
-at-place b p = rulesIn (p .count) (drop (p .from) b)
+at-place : (fmt : ℕ) → List ℕ → Place → List Rule
+at-place fmt b p = rulesIn fmt (p .count) (drop (p .from) b)
 
-picked : (t : Bool) (b : List ℕ) (x y : Place) → at-place b (pickPlace t x y) ≡ pickRules t (at-place b x) (at-place b y)
-picked true b x y = refl
-picked false b x y = refl
+picked : (fmt : ℕ) (t : Bool) (b : List ℕ) (x y : Place) → at-place fmt b (pickPlace t x y) ≡ pickRules t (at-place fmt b x) (at-place fmt b y)
+picked fmt true b x y = refl
+picked fmt false b x y = refl
 
-named-in : (id next : ℕ) (es : List Entry) (b : List ℕ) → at-place b (placeIn id next es) ≡ rulesNamed id (listsIn es (drop next b))
+named-in : (fmt id next : ℕ) (es : List Entry) (b : List ℕ) → at-place fmt b (placeIn fmt id next es) ≡ rulesNamed id (listsIn fmt es (drop next b))
 unfolding placeIn rulesNamed listsIn rulesIn at-place
-named-in id next [] b = refl
-named-in id next (e ∷ es) b =
-    picked (eqb (e .id) id) b (placeAt true next (e .count)) (placeIn id (next + 18 * e .count) es)
-    ∙ ap (pickRules (eqb (e .id) id) (rulesIn (e .count) (drop next b)))
-    (named-in id (next + 18 * e .count) es b ∙ ap (λ (s : List ℕ). rulesNamed id (listsIn es s)) (sym (drop-drop (18 * e .count) next b)))
+named-in fmt id next [] b = refl
+named-in fmt id next (e ∷ es) b =
+    picked fmt (eqb (e .id) id) b (placeAt true next (e .count)) (placeIn fmt id (next + ruleSize fmt * e .count) es)
+    ∙ ap (pickRules (eqb (e .id) id) (rulesIn fmt (e .count) (drop next b)))
+    (named-in fmt id (next + ruleSize fmt * e .count) es b ∙ ap (λ (s : List ℕ). rulesNamed id (listsIn fmt es s)) (sym (drop-drop (ruleSize fmt * e .count) next b)))
 
 -- The rules that are read out for an id are those of the image's list with that id.
 pub list-named : (b : List ℕ) (id : ℕ) → listWith b id ≡ rulesNamed id (listsOf b)
 unfolding listWith placeOf listsOf at-place
-list-named b id = named-in id (4 + 8 * countIn b) (entriesOf b) b
+list-named b id = named-in (formatIn b) id (4 + 8 * countIn b) (entriesOf b) b
 
 -- ---- the body and the reading out
 
@@ -75,55 +77,54 @@ drop-take zero m s = ap (λ (n : ℕ). take n s) (zero-add m)
 drop-take (suc k) m [] = ap (drop (suc k)) (take-none (suc k + m)) ∙ sym (take-none m)
 drop-take (suc k) m (x ∷ s) = ap (λ (n : ℕ). drop (suc k) (take n (x ∷ s))) (suc-add k m) ∙ drop-take k m s
 
-prefix : (n : ℕ) (s : List ℕ) → rulesIn n (take (18 * n) s) ≡ rulesIn n s
+prefix : (fmt n : ℕ) (s : List ℕ) → rulesIn fmt n (take (ruleSize fmt * n) s) ≡ rulesIn fmt n s
 unfolding rulesIn
-prefix zero s = refl
-prefix (suc n) s =
-    (λ j. rule (le (inside-take 8 0 (18 * suc n) s (omega arith) j)) (le (inside-take 8 8 (18 * suc n) s (omega arith) j)) (le (inside-take 2 16 (18 * suc n) s (omega arith) j))
-    ∷ rulesIn n (shorter j))
-    ∙ ap (λ (rs : List Rule). ruleIn s ∷ rs) (prefix n (drop 18 s))
-  where
-    shorter : drop 18 (take (18 * suc n) s) ≡ take (18 * n) (drop 18 s)
-    shorter = ap (λ (k : ℕ). drop 18 (take k s)) (times n) ∙ drop-take 18 (18 * n) s
-      where
-        times : (m : ℕ) → 18 * suc m ≡ 18 + 18 * m
-        times m = omega arith
+prefix fmt zero s = refl
+prefix fmt (suc n) s =
+    let w : ℕ = wordBytes fmt in
+    let z : ℕ = ruleSize fmt in
+    let words = rule-words fmt in
+    let times : z * suc n ≡ z + z * n = omega arith in
+    let shorter : drop z (take (z * suc n) s) ≡ take (z * n) (drop z s) = ap (λ (k : ℕ). drop z (take k s)) times ∙ drop-take z (z * n) s in
+    (λ j. rule (le (inside-take w 0 (z * suc n) s (omega arith) j)) (le (inside-take w w (z * suc n) s (omega arith) j)) (le (inside-take 2 (w + w) (z * suc n) s (omega arith) j))
+    ∷ rulesIn fmt n (shorter j))
+    ∙ ap (λ (rs : List Rule). ruleIn fmt s ∷ rs) (prefix fmt n (drop z s))
 
 -- The body that is handed back holds the rules that are read out.
-pub body-rules : (b : List ℕ) (id : ℕ) → idCheck b id ≡ passed → rulesIn (placeOf b id .count) (bodyOf b id) ≡ listWith b id
+pub body-rules : (b : List ℕ) (id : ℕ) → idCheck b id ≡ passed → rulesIn (formatIn b) (placeOf b id .count) (bodyOf b id) ≡ listWith b id
 unfolding bodyOf listWith
 body-rules b id f =
-    ap (λ (u : Reply). rulesIn (placeOf b id .count) (unlessRefused u (part (18 * placeOf b id .count) (placeOf b id .from) b) [])) f
-    ∙ prefix (placeOf b id .count) (drop (placeOf b id .from) b)
+    ap (λ (u : Reply). rulesIn (formatIn b) (placeOf b id .count) (unlessRefused u (part (ruleSize (formatIn b) * placeOf b id .count) (placeOf b id .from) b) [])) f
+    ∙ prefix (formatIn b) (placeOf b id .count) (drop (placeOf b id .from) b)
 
 -- The body that is handed back is the bytes of the rules that are read out.
-pub body-bytes : (b : List ℕ) (id : ℕ) → AreBytes b → idCheck b id ≡ passed → bodyOf b id ≡ rulesBytes (listWith b id)
+pub body-bytes : (b : List ℕ) (id : ℕ) → AreBytes b → idCheck b id ≡ passed → bodyOf b id ≡ rulesBytes (formatIn b) (listWith b id)
 unfolding bodyOf listWith idCheck
 body-bytes b id h f =
     let facts = image-facts b [] (bare-first (imageCheck b) _ (bare-image b) [] f) in
     let p = placeOf b id in
     let fits = place-fits b id (facts .sums) in
-    ap (λ (u : Reply). unlessRefused u (part (18 * p .count) (p .from) b) []) f
-    ∙ sym (rules-back (p .count) (drop (p .from) b) (bytes-drop (p .from) b h) (within fits))
+    ap (λ (u : Reply). unlessRefused u (part (ruleSize (formatIn b) * p .count) (p .from) b) []) f
+    ∙ sym (rules-back (formatIn b) (p .count) (drop (p .from) b) (bytes-drop (p .from) b h) (within fits))
   where
-    within : placeOf b id .from + 18 * placeOf b id .count ≤ length b → 18 * placeOf b id .count ≤ length (drop (placeOf b id .from) b)
+    within : placeOf b id .from + ruleSize (formatIn b) * placeOf b id .count ≤ length b → ruleSize (formatIn b) * placeOf b id .count ≤ length (drop (placeOf b id .from) b)
     within k = omega (arith, length-drop (placeOf b id .from) b)
 
 -- ---- offsets
 
-offset-in : (size next least l : ℕ) (es : List Entry) (k : ℕ) (d : Entry) → entriesCheck size next least l es ≡ passed → k < length es
-    → getD es k d .offset ≡ next + 18 * total (take k es)
+offset-in : (fmt size next least l : ℕ) (es : List Entry) (k : ℕ) (d : Entry) → entriesCheck fmt size next least l es ≡ passed → k < length es
+    → getD es k d .offset ≡ next + ruleSize fmt * total (take k es)
 unfolding entriesCheck total
-offset-in size next least l [] k d f h = absurd (omega arith)
-offset-in size next least l (e ∷ es) zero d f h =
-    entry-facts size next least l e (bare-first (entryCheck size next least l e) _ (bare-entry size next least l e) [] f) .starts ∙ omega arith
-offset-in size next least l (e ∷ es) (suc k) d f h =
-    offset-in size (next + 18 * e .count) (e .id + 1) (l + 1) es k d (then-second (entryCheck size next least l e) _ [] f) (omega arith)
+offset-in fmt size next least l [] k d f h = absurd (omega arith)
+offset-in fmt size next least l (e ∷ es) zero d f h =
+    entry-facts fmt size next least l e (bare-first (entryCheck fmt size next least l e) _ (bare-entry fmt size next least l e) [] f) .starts ∙ omega arith
+offset-in fmt size next least l (e ∷ es) (suc k) d f h =
+    offset-in fmt size (next + ruleSize fmt * e .count) (e .id + 1) (l + 1) es k d (then-second (entryCheck fmt size next least l e) _ [] f) (omega arith)
     ∙ omega arith
 
 -- In an accepted image an entry's offset is the running position: the contents' end and the bodies before it.
 pub offset-runs : (b : List ℕ) (k : ℕ) (d : Entry) → imageCheck b ≡ passed → k < length (entriesOf b)
-    → getD (entriesOf b) k d .offset ≡ 4 + 8 * countIn b + 18 * total (take k (entriesOf b))
+    → getD (entriesOf b) k d .offset ≡ 4 + 8 * countIn b + ruleSize (formatIn b) * total (take k (entriesOf b))
 unfolding imageCheck contentsCheck
 offset-runs b k d f h =
-    offset-in (length b) (4 + 8 * countIn b) 0 1 (entriesOf b) k d (bare-first (contentsCheck b) _ (bare-contents b) [] (then-second (headCheck b) _ [] f)) h
+    offset-in (formatIn b) (length b) (4 + 8 * countIn b) 0 1 (entriesOf b) k d (bare-first (contentsCheck b) _ (bare-contents b) [] (then-second (headCheck b) _ [] f)) h

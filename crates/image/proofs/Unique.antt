@@ -9,7 +9,7 @@ use Rattle.image.specs.declared.Outcome.{Outcome}
 use Rattle.image.specs.declared.Listed.{Listed}
 use Rattle.image.specs.Checks.{imageCheck}
 use Rattle.image.specs.Replies.{outcomeReply, listedReply}
-use Rattle.image.specs.Calls.{widthReply, countReply, entryReply, idCheck, bodyOf, ReadOut}
+use Rattle.image.specs.Calls.{formatReply, widthReply, countReply, entryReply, idCheck, bodyOf, ReadOut}
 
 -- ---- one answer for each reply
 
@@ -37,6 +37,10 @@ module _ (b : List ℕ) where
   -- check
   pub check-once : (x y : Verdict) → verdictReply x ≡ imageCheck b → verdictReply y ≡ imageCheck b → x ≡ y
   check-once x y p q = one-verdict x y (p ∙ sym q)
+
+  -- format
+  pub format-once : (x y : Outcome) → outcomeReply x ≡ formatReply b → outcomeReply y ≡ formatReply b → x ≡ y
+  format-once x y p q = one-outcome x y (p ∙ sym q)
 
   -- width
   pub width-once : (x y : Outcome) → outcomeReply x ≡ widthReply b → outcomeReply y ≡ widthReply b → x ≡ y

@@ -1,3 +1,4 @@
+pub mod Formats
 pub mod Bytes
 pub mod Images
 pub mod Checks

@@ -3,9 +3,14 @@ ghost use mathlib.Core.Path.{_≡_};
 ghost use Prim.Native.Nat.{_+_, _*_, _≤_, _<_};
 ghost use lib.ListN.{length, drop};
 ghost use Rattle.rules.specs.Replies.{verdictReply, Refuses};
-ghost use Rattle.rules.specs.Checks.{rulesCheck};
-ghost use Rattle.image.specs.Images.{entryIn, entryWith, rulesIn, countIn, widthIn, entriesOf, total};
+ghost use Rattle.rules.specs.Checks.{widest, rulesCheck};
+ghost use Rattle.image.specs.Formats.{ruleSize};
+ghost use Rattle.image.specs.Images.{entryIn, entryWith, rulesIn, formatIn, countIn, widthIn, entriesOf, total};
 ghost use Rattle.image.specs.Checks.{headCheck, entryCheck, contentsCheck, bodiesCheck, imageCheck};
+use crate::formats::body_size;
+use crate::formats::is_known;
+use crate::formats::most_places;
+use crate::formats::rule_size;
 use crate::numbers::rule_in;
 use crate::numbers::u16_at;
 use crate::numbers::u32_at;
@@ -31,7 +36,7 @@ fn head(b: &[u8]) -> Verdict
     if b.len() > 65536 {
         return refused(10, 0, 0);
     }
-    if b[0] != 1 {
+    if !is_known(b[0]) {
         return refused(11, 0, 0);
     }
     if b[3] != 0 {
@@ -40,7 +45,7 @@ fn head(b: &[u8]) -> Verdict
     if b[1] < 1 {
         return refused(1, 0, 0);
     }
-    if b[1] > 64 {
+    if wide(b[1]) as u32 > most_places(b[0]) {
         return refused(1, 0, 0);
     }
     let lists = wide(b[2]);
@@ -58,6 +63,7 @@ fn head(b: &[u8]) -> Verdict
 
 // Contents entry number `list` of an image of `size` bytes: its id is `least` or more, its body starts at byte `next`.
 fn entry_verdict(
+    format: u8,
     size: usize,
     next: usize,
     least: usize,
@@ -67,7 +73,7 @@ fn entry_verdict(
     id: usize,
 ) -> Verdict
     requires { ⌜ next ≤ 65536 ⌝ }
-    ensures { λ r. ⌜ verdictReply r ≡ entryCheck size next least list (entryWith offset count id) ⌝ }
+    ensures { λ r. ⌜ verdictReply r ≡ entryCheck format size next least list (entryWith offset count id) ⌝ }
 {
     if id < least {
         return refused(13, list, 0);
@@ -78,22 +84,22 @@ fn entry_verdict(
     if count > 1024 {
         return refused(3, list, 0);
     }
-    if next + 18 * count > size {
+    if next + body_size(format, count) > size {
         return refused(10, list, 0);
     }
     Verdict::Fine
 }
 
 // The contents entry at byte `at`.
-fn entry_at(b: &[u8], at: usize, next: usize, least: usize, list: usize) -> Verdict
+fn entry_at(format: u8, b: &[u8], at: usize, next: usize, least: usize, list: usize) -> Verdict
     requires { ⌜ (at + 8 ≤ length (now b)) × (next ≤ 65536) ⌝ }
     ensures { λ r. ⌜ verdictReply r
-        ≡ entryCheck (length (now (b .entry))) next least list (entryIn (drop at (now (b .entry)))) ⌝ }
+        ≡ entryCheck format (length (now (b .entry))) next least list (entryIn (drop at (now (b .entry)))) ⌝ }
 {
     let offset = u32_at(b, at);
     let count = u16_at(b, at + 4);
     let id = u16_at(b, at + 6);
-    entry_verdict(b.len(), next, least, list, offset, count, id)
+    entry_verdict(format, b.len(), next, least, list, offset, count, id)
 }
 
 // The contents of an image whose head is right. Bodies are counted from the end of the one before and not from the
@@ -102,17 +108,18 @@ fn contents(b: &[u8]) -> Verdict
     requires { ⌜ (4 ≤ length (now b)) × (length (now b) ≤ 65536) × (4 + 8 * countIn (now b) ≤ length (now b)) ⌝ }
     ensures { λ r. ⌜ verdictReply r ≡ contentsCheck (now (b .entry)) ⌝ }
 {
+    let format = b[0];
     let mut left = wide(b[2]);
     let mut next = 4 + 8 * left;
     let mut at: usize = 4;
     let mut least: usize = 0;
     let mut list: usize = 1;
     while 0 < left {
-        let v = entry_at(b, at, next, least, list);
+        let v = entry_at(format, b, at, next, least, list);
         let Verdict::Fine = v else {
             return v;
         };
-        next += 18 * u16_at(b, at + 4);
+        next += body_size(format, u16_at(b, at + 4));
         least = u16_at(b, at + 6) + 1;
         at += 8;
         list += 1;
@@ -125,20 +132,20 @@ fn contents(b: &[u8]) -> Verdict
 }
 
 // The `count` rules from byte `from` on, the lower rule first.
-fn rules_at(b: &[u8], from: usize, count: usize, width: u32, list: usize) -> Verdict
-    requires { ⌜ (from + 18 * count ≤ length (now b)) × (1 ≤ width) × (width ≤ 64) ⌝ }
-    ensures { λ r. ⌜ verdictReply r ≡ rulesCheck width list 1 (rulesIn count (drop from (now (b .entry)))) ⌝ }
+fn rules_at(format: u8, b: &[u8], from: usize, count: usize, width: u32, list: usize) -> Verdict
+    requires { ⌜ (from + ruleSize format * count ≤ length (now b)) × (count < 65536) × (1 ≤ width) × (width ≤ widest) ⌝ }
+    ensures { λ r. ⌜ verdictReply r ≡ rulesCheck width list 1 (rulesIn format count (drop from (now (b .entry)))) ⌝ }
 {
     let mut left = count;
     let mut at = from;
     let mut number: usize = 1;
     while 0 < left {
-        let v = check_rule(width, list, number, rule_in(b, at));
+        let v = check_rule(width, list, number, rule_in(format, b, at));
         let Verdict::Fine = v else {
             return v;
         };
         left -= 1;
-        at += 18;
+        at += rule_size(format);
         number += 1;
     }
     Verdict::Fine
@@ -146,10 +153,11 @@ fn rules_at(b: &[u8], from: usize, count: usize, width: u32, list: usize) -> Ver
 
 // The rules of all lists of an image whose head and contents are right.
 fn bodies(b: &[u8]) -> Verdict
-    requires { ⌜ (4 ≤ length (now b)) × (length (now b) ≤ 65536) × (1 ≤ widthIn (now b)) × (widthIn (now b) ≤ 64)
-        × (4 + 8 * countIn (now b) + 18 * total (entriesOf (now b)) ≡ length (now b)) ⌝ }
+    requires { ⌜ (4 ≤ length (now b)) × (length (now b) ≤ 65536) × (1 ≤ widthIn (now b)) × (widthIn (now b) ≤ widest)
+        × (4 + 8 * countIn (now b) + ruleSize (formatIn (now b)) * total (entriesOf (now b)) ≡ length (now b)) ⌝ }
     ensures { λ r. ⌜ verdictReply r ≡ bodiesCheck (now (b .entry)) ⌝ }
 {
+    let format = b[0];
     let width = wide(b[1]) as u32;
     let mut left = wide(b[2]);
     let mut from = 4 + 8 * left;
@@ -157,11 +165,11 @@ fn bodies(b: &[u8]) -> Verdict
     let mut list: usize = 1;
     while 0 < left {
         let count = u16_at(b, at + 4);
-        let v = rules_at(b, from, count, width, list);
+        let v = rules_at(format, b, from, count, width, list);
         let Verdict::Fine = v else {
             return v;
         };
-        from += 18 * count;
+        from += body_size(format, count);
         at += 8;
         list += 1;
         left -= 1;

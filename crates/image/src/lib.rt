@@ -1,5 +1,6 @@
 // Images that carry rule lists: checking, asking and reading them, each on any bytes.
 mod checks;
+mod formats;
 mod numbers;
 mod places;
 mod questions;
@@ -10,6 +11,7 @@ pub use questions::body;
 pub use questions::body_refusal;
 pub use questions::count;
 pub use questions::entry;
+pub use questions::format;
 pub use questions::width;
 pub use reading::read;
 use rules::Refusal;

@@ -3,8 +3,13 @@ ghost use mathlib.Core.Path.{_≡_};
 ghost use Prim.Native.Nat.{_+_, _^_, _≤_, _<_};
 ghost use lib.ListN.{length, drop};
 ghost use Rattle.image.specs.Bytes.{num};
+ghost use Rattle.words.specs.Halves.{halves};
+ghost use Rattle.rules.specs.Rule.{held};
+ghost use Rattle.image.specs.Formats.{wordBytes, ruleSize};
 ghost use Rattle.image.specs.Images.{ruleIn};
+use crate::formats::word_bytes;
 use rules::Rule;
+use words::Word;
 
 // A byte as a number that sums and products have room in.
 pub(crate) fn wide(x: u8) -> usize
@@ -35,14 +40,28 @@ fn u64_at(b: &[u8], at: usize) -> usize
     u32_at(b, at + 4) * 4294967296 + u32_at(b, at)
 }
 
-// The rule in the 18 bytes from byte `at` on.
-pub(crate) fn rule_in(b: &[u8], at: usize) -> Rule
-    requires { ⌜ at + 18 ≤ length (now b) ⌝ }
-    ensures { λ r. ⌜ r ≡ ruleIn (drop at (now (b .entry))) ⌝ }
+// The word in the bytes from byte `at` on: 8 of them in format 1, which are its low half, and 16 in format 2, the low half first.
+fn word_in(format: u8, b: &[u8], at: usize) -> Word
+    requires { ⌜ at + wordBytes format ≤ length (now b) ⌝ }
+    ensures { λ r. ⌜ r ≡ halves (num (wordBytes format) at (now (b .entry))) ⌝ }
 {
-    let care = u64_at(b, at) as u64;
-    let value = u64_at(b, at + 8) as u64;
-    let decision = u16_at(b, at + 16) as u16;
+    let low = u64_at(b, at) as u64;
+    if format == 1 {
+        return Word { low, high: 0 };
+    }
+    let high = u64_at(b, at + 8) as u64;
+    Word { low, high }
+}
+
+// The rule in the bytes from byte `at` on.
+pub(crate) fn rule_in(format: u8, b: &[u8], at: usize) -> Rule
+    requires { ⌜ at + ruleSize format ≤ length (now b) ⌝ }
+    ensures { λ r. ⌜ r ≡ held (ruleIn format (drop at (now (b .entry)))) ⌝ }
+{
+    let size = word_bytes(format);
+    let care = word_in(format, b, at);
+    let value = word_in(format, b, at + size);
+    let decision = u16_at(b, at + size + size) as u16;
     Rule {
         care,
         value,

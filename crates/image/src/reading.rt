@@ -4,11 +4,13 @@ ghost use Prim.Native.Nat.{_+_, _*_, _≤_};
 ghost use lib.ListN.{length, drop};
 ghost use Rattle.rules.specs.Replies.{Refuses};
 ghost use Rattle.rules.specs.Slices.{Lent};
+ghost use Rattle.image.specs.Formats.{ruleSize};
 ghost use Rattle.image.specs.Images.{rulesIn};
 ghost use Rattle.image.specs.Calls.{ReadOut};
 ghost use Rattle.image.specs.Replies.{outcomeReply};
 ghost use Rattle.image.specs.Filled.{Filled};
 use crate::Outcome;
+use crate::formats::rule_size;
 use crate::numbers::rule_in;
 use crate::places::find;
 use crate::questions::body_refusal;
@@ -18,6 +20,7 @@ use rules::put_rule;
 
 // Puts the `count` rules from byte `from` on into three slices. Later places keep their contents.
 fn fill(
+    format: u8,
     b: &[u8],
     from: usize,
     count: usize,
@@ -25,18 +28,18 @@ fn fill(
     value: &mut [u64],
     decision: &mut [u16],
 )
-    requires { ⌜ (from + 18 * count ≤ length (now b)) × (count ≤ length (now care))
+    requires { ⌜ (from + ruleSize format * count ≤ length (now b)) × (count ≤ length (now decision))
         × Lent (now care) (now value) (now decision) ⌝ }
-    ensures { λ _. ⌜ Filled (rulesIn count (drop from (now (b .entry))))
+    ensures { λ _. ⌜ Filled (rulesIn format count (drop from (now (b .entry))))
         (now (care .entry)) (now (value .entry)) (now (decision .entry))
         (now (care .exit)) (now (value .exit)) (now (decision .exit)) ⌝ }
 {
     let mut i: usize = 0;
     let mut at = from;
     while i < count {
-        put_rule(care, value, decision, i, rule_in(b, at));
+        put_rule(care, value, decision, i, rule_in(format, b, at));
         i += 1;
-        at += 18;
+        at += rule_size(format);
     }
 }
 
@@ -51,8 +54,8 @@ fn not_read(number: usize) -> Outcome
     })
 }
 
-// Reads the list with that id out: the number of rules, and the rules in the three slices. The image's checks and 15,
-// then 2 and 7.
+// Reads the list with that id out: the number of rules, and the rules in the three slices, which take two numbers to a rule for
+// care and for value, the low half first. The image's checks and 15, then 2 and 7.
 pub fn read(
     image: &[u8],
     id: u16,
@@ -71,15 +74,15 @@ pub fn read(
     if care.len() != value.len() {
         return not_read(2);
     }
-    if care.len() != decision.len() {
+    if care.len() != decision.len() * 2 {
         return not_read(2);
     }
     let p = find(image, id as usize);
     let from = p.from;
     let count = p.count;
-    if count > care.len() {
+    if count > decision.len() {
         return not_read(7);
     }
-    fill(image, from, count, care, value, decision);
+    fill(image[0], image, from, count, care, value, decision);
     Outcome::Number(count)
 }

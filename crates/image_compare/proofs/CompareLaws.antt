@@ -5,7 +5,7 @@ use Prim.Native.Nat.{ℕ, _≤_}
 use lib.Dec.{eqb}
 use lib.ListN.{length}
 use borrow.Author.Tests.{eq-eqb, ne-eqb}
-use Rattle.rules.specs.declared.Rule.{Rule}
+use Rattle.rules.specs.Rule.{Rule}
 use Rattle.rules.specs.declared.Refusal.{Refusal}
 use Rattle.rules.specs.Slices.{rulesOf}
 use Rattle.rules.specs.Replies.{Reply, Gives, Refuses, passed, need, _then_, refusalReply}

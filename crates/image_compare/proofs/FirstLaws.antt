@@ -7,7 +7,7 @@ use lib.ListN.{length, drop}
 use Rattle.rules.specs.Replies.{Reply, Gives, Refuses, passed, _then_}
 use Rattle.rules.proofs.ReplyLaws.{need-yes}
 use Rattle.image.specs.Bytes.{num}
-use Rattle.image.specs.Images.{Entry, entryWith, countIn, entriesOf, rulesIn, listsIn, listsOf}
+use Rattle.image.specs.Images.{Entry, entryWith, formatIn, countIn, entriesOf, rulesIn, listsIn, listsOf}
 use Rattle.image.specs.Checks.{imageCheck}
 use Rattle.image.specs.Places.{placeOf, listWith}
 use Rattle.image.specs.Calls.{entryNumber, idCheck}
@@ -18,11 +18,11 @@ use Rattle.image.proofs.SeekLaws.{image-facts, entry-stands}
 use Rattle.image.proofs.PassedLaws.{first-within, first-found, first-body}
 use Rattle.image_compare.specs.Comparing.{rulesOfFirst, firstRules}
 
-first-rules : (b : List ℕ) → 1 ≤ countIn b → firstRules b ≡ rulesIn (num 2 8 b) (drop (4 + 8 * countIn b) b)
+first-rules : (b : List ℕ) → 1 ≤ countIn b → firstRules b ≡ rulesIn (formatIn b) (num 2 8 b) (drop (4 + 8 * countIn b) b)
 unfolding firstRules rulesOfFirst listsOf entriesOf listsIn
 first-rules b h =
-    ap (λ (es : List Entry). rulesOfFirst (listsIn es (drop (4 + 8 * countIn b) b))) (entries-step (countIn b) (drop 4 b) (omega arith))
-    ∙ ap (λ (n : ℕ). rulesIn n (drop (4 + 8 * countIn b) b)) (num-in 2 4 4 b)
+    ap (λ (es : List Entry). rulesOfFirst (listsIn (formatIn b) es (drop (4 + 8 * countIn b) b))) (entries-step (countIn b) (drop 4 b) (omega arith))
+    ∙ ap (λ (n : ℕ). rulesIn (formatIn b) n (drop (4 + 8 * countIn b) b)) (num-in 2 4 4 b)
 
 -- asking for it by the id in the first contents entry gives its rules
 pub first-list : (b : List ℕ) → imageCheck b ≡ passed → listWith b (num 2 10 b) ≡ firstRules b

@@ -2,11 +2,13 @@
 -- list in the first places, which pass the checks of a list.
 use mathlib.Core.Path.{_≡_, refl, sym, ap, _∙_, subst⁻¹}
 use mathlib.Core.List.{List, [], _∷_, map}
-use Prim.Native.Nat.{ℕ, zero, suc, _≤_}
+use Prim.Native.Nat.{ℕ, zero, suc, _*_, _≤_}
 use native.Mathlib.Omega.{arith}
 use lib.ListN.{length, take, drop, length-map}
 use lib.Seq.{take-at}
-use Rattle.rules.specs.declared.Rule.{Rule}
+use Rattle.words.specs.Slices.{halvesOf}
+use Rattle.words.proofs.SliceLaws.{halves-length}
+use Rattle.rules.specs.Rule.{Rule}
 use Rattle.rules.specs.declared.Refusal.{Refusal}
 use Rattle.rules.specs.Rules.{Valid}
 use Rattle.rules.specs.Slices.{rulesOf}
@@ -21,18 +23,21 @@ use Rattle.image.specs.declared.Outcome.{Outcome}
 use Rattle.image.specs.Images.{widthIn}
 use Rattle.image.specs.Checks.{imageCheck}
 use Rattle.image.specs.Places.{placeOf, listWith}
-use Rattle.image.specs.Calls.{idCheck, readReply, ReadOut, filled, careOf, valueOf, decisionOf}
+use Rattle.image.specs.Calls.{idCheck, readReply, ReadOut, filled, careOf, valueOf, decisionOf, caresOf, valuesOf, decisionsOf}
 use Rattle.image.specs.Replies.{outcomeReply}
 use Rattle.image.proofs.BareLaws.{Bare, bare-first, bare-then, bare-need, bare-image}
 use Rattle.image.proofs.PassedLaws.{length-with, list-facts}
 
--- ---- rules in the first places of three slices
+-- ---- rules in the first places of three slices, two numbers to a rule in the first two
 
 pub record Held (n : ℕ) (rs : List Rule) (c v d : List ℕ) : Type 0 where
   pub size : length rs ≡ n
-  pub cares : take n c ≡ map careOf rs
-  pub values : take n v ≡ map valueOf rs
-  pub decisions : take n d ≡ map decisionOf rs
+  pub cares : take (n * 2) c ≡ caresOf rs
+  pub values : take (n * 2) v ≡ valuesOf rs
+  pub decisions : take n d ≡ decisionsOf rs
+
+words-size : (f : Rule → ℕ) (rs : List Rule) (n : ℕ) → length rs ≡ n → length (halvesOf (map f rs)) ≡ n * 2
+words-size f rs n e = halves-length (map f rs) ∙ ap (λ (k : ℕ). k * 2) (length-map rs f ∙ e)
 
 take-room : (n : ℕ) (c : List ℕ) → n ≡ length (take n c) → n ≤ length c
 take-room zero c e = omega arith
@@ -40,41 +45,41 @@ take-room (suc n) [] e = absurd (omega arith)
 take-room (suc n) (x ∷ xs) e = let r : n ≤ length xs = take-room n xs (omega arith) in omega arith
 
 module _ (n : ℕ) (rs : List Rule) (c v d : List ℕ) (h : Held n rs c v d) where
-  pub held-rules : rulesOf (take n c) (take n v) (take n d) ≡ rs
+  pub held-rules : rulesOf (take (n * 2) c) (take (n * 2) v) (take n d) ≡ rs
   held-rules = (λ j. rulesOf (h .cares j) (h .values j) (h .decisions j)) ∙ rules-columns rs
 
-  pub held-cares : n ≡ length (take n c)
-  held-cares = sym (ap length (h .cares) ∙ length-map rs careOf ∙ h .size)
+  pub held-cares : n * 2 ≡ length (take (n * 2) c)
+  held-cares = sym (ap length (h .cares) ∙ words-size careOf rs n (h .size))
 
-  pub held-values : n ≡ length (take n v)
-  held-values = sym (ap length (h .values) ∙ length-map rs valueOf ∙ h .size)
+  pub held-values : n * 2 ≡ length (take (n * 2) v)
+  held-values = sym (ap length (h .values) ∙ words-size valueOf rs n (h .size))
 
   pub held-decisions : n ≡ length (take n d)
   held-decisions = sym (ap length (h .decisions) ∙ length-map rs decisionOf ∙ h .size)
 
-  pub room-cares : n ≤ length c
-  room-cares = take-room n c held-cares
+  pub room-cares : n * 2 ≤ length c
+  room-cares = take-room (n * 2) c held-cares
 
-  pub room-values : n ≤ length v
-  room-values = take-room n v held-values
+  pub room-values : n * 2 ≤ length v
+  room-values = take-room (n * 2) v held-values
 
   pub room-decisions : n ≤ length d
   room-decisions = take-room n d held-decisions
 
 -- the rules of an accepted image's list pass the checks of a list, as any list's number
 pub held-passes : (b : List ℕ) (id l n : ℕ) (c v d : List ℕ) → imageCheck b ≡ passed → Held n (listWith b id) c v d
-    → checkList (widthIn b) l (take n c) (take n v) (take n d) ≡ passed
+    → checkList (widthIn b) l (take (n * 2) c) (take (n * 2) v) (take n d) ≡ passed
 held-passes b id l n c v d p h =
     let f = list-facts b id p in
     let cs = held-cares n (listWith b id) c v d h in
     let vs = held-values n (listWith b id) c v d h in
     let ds = held-decisions n (listWith b id) c v d h in
-    sound-list (widthIn b) l (take n c) (take n v) (take n d)
+    sound-list (widthIn b) l (take (n * 2) c) (take (n * 2) v) (take n d)
     (record {
       least = f .least;
       most = f .most;
-      lent = record { values = sym vs ∙ cs; decisions = sym ds ∙ cs };
-      few = omega (arith, cs, f .few, h .size, length-with b id);
+      lent = record { values = sym vs ∙ cs; decisions = ap (λ (k : ℕ). k * 2) (sym ds) ∙ cs };
+      few = omega (arith, ds, f .few, h .size, length-with b id);
       valid = subst⁻¹ (All (Valid (widthIn b))) (held-rules n (listWith b id) c v d h) (f .valid);
     })
 
@@ -96,18 +101,18 @@ gives-stop : (a : Reply) (ns : List ℕ) (x : Refusal) → (a then Gives ns) ≡
 gives-stop (Gives ms) ns x e = absurd (gives-refuses e)
 gives-stop (Refuses n l r) ns x e = e
 
--- slices of 1,024 places are never too short
-room-enough : (b : List ℕ) (id : ℕ) (c v d : List ℕ) → length c ≡ 1024 → length v ≡ 1024 → length d ≡ 1024
+-- slices of 1,024 places, two numbers to each of the first two, are never too short
+room-enough : (b : List ℕ) (id : ℕ) (c v d : List ℕ) → length c ≡ 2048 → length v ≡ 2048 → length d ≡ 1024
     → readReply b id c v d ≡ (idCheck b id then Gives (placeOf b id .count ∷ []))
 unfolding readReply
 room-enough b id c v d p q s =
     same-next (idCheck b id) _ _ (bare-id b id)
     (λ e.
-    then-next (lengthsCheck c v d) _ (lengths-yes c v d (p ∙ sym q) (p ∙ sym s))
-    ∙ then-next (roomCheck (placeOf b id .count) (length c)) _ (room-yes _ _ (omega (arith, list-facts b id (id-image b id e) .few))))
+    then-next (lengthsCheck c v d) _ (lengths-yes c v d (p ∙ sym q) (omega arith))
+    ∙ then-next (roomCheck (placeOf b id .count) (length d)) _ (room-yes _ _ (omega (arith, list-facts b id (id-image b id e) .few))))
 
 module _ (b : List ℕ) (id : ℕ) (c v d : List ℕ) (x : Outcome) (c′ v′ d′ : List ℕ) (o : ReadOut b id c v d x c′ v′ d′) where
-  pub read-refused : length c ≡ 1024 → length v ≡ 1024 → length d ≡ 1024 → {y : Refusal} → x ≡ Outcome.Refused y → idCheck b id ≡ refusalReply y
+  pub read-refused : length c ≡ 2048 → length v ≡ 2048 → length d ≡ 1024 → {y : Refusal} → x ≡ Outcome.Refused y → idCheck b id ≡ refusalReply y
   read-refused p q s {y} e =
       gives-stop (idCheck b id) _ y (sym (room-enough b id c v d p q s) ∙ sym (o .answer) ∙ ap outcomeReply e)
 
@@ -125,20 +130,24 @@ module _ (b : List ℕ) (id : ℕ) (c v d : List ℕ) (x : Outcome) (c′ v′ d
     counted : placeOf b id .count ≡ n
     unfolding readReply
     counted =
-        one-value (then-second (roomCheck (placeOf b id .count) (length c)) _ (n ∷ [])
+        one-value (then-second (roomCheck (placeOf b id .count) (length d)) _ (n ∷ [])
         (then-second (lengthsCheck c v d) _ (n ∷ []) (then-second (idCheck b id) _ (n ∷ []) told)))
 
-    column : (f : Rule → ℕ) (s s′ : List ℕ) → s′ ≡ unlessRefused (readReply b id c v d) (filled f (listWith b id) s) s
-        → take n s′ ≡ map f (listWith b id)
-    column f s s′ p =
-        ap (take n) (p ∙ ap (λ (u : Reply). unlessRefused u (filled f (listWith b id) s) s) told)
-        ∙ take-at (map f (listWith b id)) (drop (length (listWith b id)) s) n (length-map (listWith b id) f ∙ length-with b id ∙ counted)
+    pub read-few : n ≤ 1024
+    read-few = omega (arith, counted, list-facts b id read-image .few)
+
+    size : length (listWith b id) ≡ n
+    size = length-with b id ∙ counted
+
+    column : (l : List ℕ) (k : ℕ) (s s′ : List ℕ) → length l ≡ k → s′ ≡ unlessRefused (readReply b id c v d) (filled l s) s → take k s′ ≡ l
+    column l k s s′ h p =
+        ap (take k) (p ∙ ap (λ (u : Reply). unlessRefused u (filled l s) s) told) ∙ take-at l (drop (length l) s) k h
 
     pub read-held : Held n (listWith b id) c′ v′ d′
     read-held =
         record {
-          size = length-with b id ∙ counted;
-          cares = column careOf c c′ (o .cares);
-          values = column valueOf v v′ (o .values);
-          decisions = column decisionOf d d′ (o .decisions);
+          size = size;
+          cares = column (caresOf (listWith b id)) (n * 2) c c′ (words-size careOf (listWith b id) n size) (o .cares);
+          values = column (valuesOf (listWith b id)) (n * 2) v v′ (words-size valueOf (listWith b id) n size) (o .values);
+          decisions = column (decisionsOf (listWith b id)) n d d′ (length-map (listWith b id) decisionOf ∙ size) (o .decisions);
         }

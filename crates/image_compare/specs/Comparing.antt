@@ -4,7 +4,7 @@ use Prim.Native.Nat.{ℕ}
 use mathlib.Core.List.{List, [], _∷_}
 use lib.Dec.{eqb}
 use lib.ListN.{length}
-use Rattle.rules.specs.declared.Rule.{Rule}
+use Rattle.rules.specs.Rule.{Rule}
 use Rattle.rules.specs.Replies.{Reply, need, _then_}
 use Rattle.compare.specs.declared.Compared.{Compared}
 use Rattle.compare.specs.Runs.{differences}
@@ -24,7 +24,7 @@ unfoldable pub firstRules : List ℕ → List Rule
 firstRules bs = rulesOfFirst (listsOf bs)
 
 -- Comparing two lists by their ids: all checks of the old image and 15 of its list, the same of the new image, then 16: the
--- widths differ; then 6 of the start, 2 of the four result slices, 7.
+-- widths differ; then 6 of the start, 2 of the four result slices, 7. The formats may differ.
 unfoldable pub compareListsCheck : (old : List ℕ) → (oldId : ℕ) → (new : List ℕ) → (newId : ℕ) → (start : ℕ) → (firsts lasts olds news : ℕ) → Reply
 compareListsCheck old i new j start a b c d =
     idCheck old i

@@ -3,7 +3,7 @@ use Prim.Native.Nat.{ℕ}
 use mathlib.Core.List.{List}
 use lib.Dec.{eqb}
 use lib.ListN.{length}
-use Rattle.rules.specs.declared.Rule.{Rule}
+use Rattle.rules.specs.Rule.{Rule}
 use Rattle.rules.specs.Replies.{Reply, need, _then_}
 use Rattle.compare.specs.declared.Compared.{Compared}
 use Rattle.compare.specs.Runs.{differences}

@@ -2,10 +2,11 @@
 ghost use mathlib.Core.Path.{_≡_};
 ghost use Prim.Native.Nat.{_+_, _*_, _≤_, _<_};
 ghost use lib.ListN.{length};
+ghost use Rattle.words.specs.Halves.{num};
 ghost use Rattle.rules.specs.Replies.{passed};
 ghost use Rattle.rules.specs.Slices.{rulesOf};
 ghost use Rattle.rules.specs.Calls.{checkList};
-ghost use Rattle.image.specs.Bytes.{num};
+ghost use Rattle.image.specs.Bytes.{num as numberAt};
 ghost use Rattle.image.specs.Images.{widthIn};
 ghost use Rattle.image_compare.specs.Comparing.{ListsCompared, FirstCompared};
 ghost use Rattle.image_compare.specs.Parts.{RestCompared};
@@ -51,12 +52,12 @@ fn compare_with(
 ) -> Compared
     requires { ⌜ (4 ≤ length (now old)) × (checkList (widthIn (now old)) 1 (now care) (now value) (now decision) ≡ passed) ⌝ }
     ensures { λ r. ⌜ RestCompared (widthIn (now (old .entry))) (rulesOf (now (care .entry)) (now (value .entry)) (now (decision .entry)))
-        (now (new .entry)) «new_id» (start .0)
+        (now (new .entry)) «new_id» (num (start .0))
         (now (first .entry)) (now (last .entry)) (now («old_answer» .entry)) (now («new_answer» .entry))
         (now (first .exit)) (now (last .exit)) (now («old_answer» .exit)) (now («new_answer» .exit)) r ⌝ }
 {
-    let mut cares = [0u64; 1024];
-    let mut values = [0u64; 1024];
+    let mut cares = [0u64; 2048];
+    let mut values = [0u64; 2048];
     let mut decisions = [0u16; 1024];
     let n = read(new, new_id, &mut cares, &mut values, &mut decisions);
     match n {
@@ -70,13 +71,14 @@ fn compare_with(
                 });
             }
             let width = wide(old[1]) as u32;
+            let halves = rules * 2;
             compare(
                 width,
                 care,
                 value,
                 decision,
-                &cares[..rules],
-                &values[..rules],
+                &cares[..halves],
+                &values[..halves],
                 &decisions[..rules],
                 start,
                 first,
@@ -88,7 +90,8 @@ fn compare_with(
     }
 }
 
-// Compares the old image's list `old_id` with the new image's list `new_id` from a header on, as `compare` does two lists.
+// Compares the old image's list `old_id` with the new image's list `new_id` from a header on, as `compare` does two lists. The
+// images may be of different formats.
 // The old image's refusal and its 15, the new image's and its 15, then 16; then 6, 2 and 7.
 pub fn compare_lists(
     old: &[u8],
@@ -101,36 +104,39 @@ pub fn compare_lists(
     old_answer: &mut [u16],
     new_answer: &mut [u16],
 ) -> Compared
-    ensures { λ r. ⌜ ListsCompared (now (old .entry)) «old_id» (now (new .entry)) «new_id» (start .0)
+    ensures { λ r. ⌜ ListsCompared (now (old .entry)) «old_id» (now (new .entry)) «new_id» (num (start .0))
         (now (first .entry)) (now (last .entry)) (now («old_answer» .entry)) (now («new_answer» .entry))
         (now (first .exit)) (now (last .exit)) (now («old_answer» .exit)) (now («new_answer» .exit)) r ⌝ }
 {
-    let mut cares = [0u64; 1024];
-    let mut values = [0u64; 1024];
+    let mut cares = [0u64; 2048];
+    let mut values = [0u64; 2048];
     let mut decisions = [0u16; 1024];
     let o = read(old, old_id, &mut cares, &mut values, &mut decisions);
     match o {
         Outcome::Refused(x) => refused(x),
-        Outcome::Number(rules) => compare_with(
-            old,
-            &cares[..rules],
-            &values[..rules],
-            &decisions[..rules],
-            new,
-            new_id,
-            start,
-            first,
-            last,
-            old_answer,
-            new_answer,
-        ),
+        Outcome::Number(rules) => {
+            let halves = rules * 2;
+            compare_with(
+                old,
+                &cares[..halves],
+                &values[..halves],
+                &decisions[..rules],
+                new,
+                new_id,
+                start,
+                first,
+                last,
+                old_answer,
+                new_answer,
+            )
+        }
     }
 }
 
 // The id of contents entry number k, counted from 1; 0 where the bytes end before it. It is asked before the image is checked.
 fn id_of(image: &[u8], k: usize) -> u16
     requires { ⌜ k ≤ 16 ⌝ }
-    ensures { λ r. ⌜ (8 * k + 4 ≤ length (now (image .entry)) → r ≡ num 2 (8 * k + 2) (now (image .entry))) ⌝ }
+    ensures { λ r. ⌜ (8 * k + 4 ≤ length (now (image .entry)) → r ≡ numberAt 2 (8 * k + 2) (now (image .entry))) ⌝ }
 {
     let at = 8 * k + 2;
     if image.len() < at + 2 {
@@ -150,7 +156,7 @@ pub fn compare_first(
     old_answer: &mut [u16],
     new_answer: &mut [u16],
 ) -> Compared
-    ensures { λ r. ⌜ FirstCompared (now (old .entry)) (now (new .entry)) (start .0)
+    ensures { λ r. ⌜ FirstCompared (now (old .entry)) (now (new .entry)) (num (start .0))
         (now (first .entry)) (now (last .entry)) (now («old_answer» .entry)) (now («new_answer» .entry))
         (now (first .exit)) (now (last .exit)) (now («old_answer» .exit)) (now («new_answer» .exit)) r ⌝ }
 {

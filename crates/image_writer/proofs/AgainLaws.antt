@@ -1,5 +1,6 @@
 -- What was written, read again.
-use mathlib.Core.Path.{_≡_, refl, sym, ap, _∙_}
+use mathlib.Core.Path.{_≡_, refl, sym, ap, _∙_, subst}
+use mathlib.Core.Bool.{true}
 use mathlib.Core.List.{List, [], _∷_, _++_, append-assoc, append-nil}
 use Prim.Native.Nat.{ℕ, zero, suc, _+_, _-_, _*_, _/_, _^_, _≤_, _<_}
 use native.Mathlib.Nat.{div-lt-iff-lt-mul, div-add-mod', pow-suc, lt-of-lt-of-le}
@@ -10,7 +11,7 @@ use lib.Pow.{pow-mono}
 use lib.ListN.{length, take, drop, length-append}
 use lib.Seq.{drop-drop, take-at, drop-at}
 use borrow.Author.Tests.{eq-eqb}
-use Rattle.rules.specs.declared.Rule.{Rule}
+use Rattle.rules.specs.Rule.{Rule}
 use Rattle.rules.specs.Rules.{rule, Valid}
 use Rattle.rules.specs.Lists.{All}
 use Rattle.rules.specs.Replies.{passed}
@@ -18,8 +19,10 @@ use Rattle.rules.specs.Checks.{rulesCheck}
 use Rattle.rules.proofs.ReplyLaws.{then-next, then-second}
 use Rattle.rules.proofs.CheckLaws.{rules-valid}
 use Rattle.image.specs.Bytes.{le, num, bytes}
+use Rattle.image.specs.Formats.{known, wordBytes, ruleSize, mostPlaces}
 use Rattle.image.specs.Images.{Named, Entry, entryWith, ruleIn, rulesIn, entryIn, entriesIn, listsIn, entriesOf, listsOf, ruleBytes, rulesBytes, bodiesBytes, entryBytes, entriesFor, contentsBytes, bytesOf}
 use Rattle.image.specs.Checks.{entriesCheck, listsCheck, contentsCheck, headCheck, bodiesCheck, imageCheck}
+use Rattle.image.proofs.FormatLaws.{rule-words, places-words, places-bytes}
 use Rattle.image.proofs.BareLaws.{bare-first, bare-rules}
 use Rattle.image.proofs.HeadLaws.{entry-fine, head-fine}
 use Rattle.image_writer.proofs.PutLaws.{length-bytes, length-rulesBytes, length-contents}
@@ -34,15 +37,16 @@ abbrev pub allRules : List Named → ℕ
 allRules [] = 0
 allRules (l ∷ ls) = length (l .rules) + allRules ls
 
--- lists that an image of width w can carry
-pub record Carried (w : ℕ) (ls : List Named) : Type 0 where
+-- lists that an image of a format and a width can carry
+pub record Carried (fmt w : ℕ) (ls : List Named) : Type 0 where
+  pub format : known fmt ≡ true
   pub low : 1 ≤ w
-  pub high : w ≤ 64
+  pub high : w ≤ mostPlaces fmt
   pub some : 1 ≤ length ls
   pub few : length ls ≤ 16
   pub rising : Rising 0 ls
   pub rules : listsCheck w 1 ls ≡ passed
-  pub size : 4 + 8 * length ls + 18 * allRules ls ≤ 65536
+  pub size : 4 + 8 * length ls + ruleSize fmt * allRules ls ≤ 65536
 
 le-bytes : (n x : ℕ) → x < 256 ^ n → le (bytes n x) ≡ x
 unfolding le bytes
@@ -86,127 +90,130 @@ entry-read e t o n i =
       row-3 4 2 2 (e .offset) (e .count) (e .id) t,
     )
 
-rule-read : (x : Rule) (t : List ℕ) → x .care < 2 ^ 64 → x .value < 2 ^ 64 → x .decision < 65536
-    → (ruleIn (ruleBytes x ++ t) ≡ x) × (drop 18 (ruleBytes x ++ t) ≡ t)
-rule-read x t c v d =
-    let s : List ℕ = ruleBytes x ++ t in (
-      (λ j. rule (get 8 0 (x .care) s _ (row-0 8 8 2 (x .care) (x .value) (x .decision) t) c j)
-          (get 8 8 (x .value) s _ (row-1 8 8 2 (x .care) (x .value) (x .decision) t) v j)
-          (get 2 16 (x .decision) s _ (row-2 8 8 2 (x .care) (x .value) (x .decision) t) d j)),
-      row-3 8 8 2 (x .care) (x .value) (x .decision) t,
+rule-read : (fmt : ℕ) (x : Rule) (t : List ℕ) → x .care < 256 ^ wordBytes fmt → x .value < 256 ^ wordBytes fmt → x .decision < 65536
+    → (ruleIn fmt (ruleBytes fmt x ++ t) ≡ x) × (drop (ruleSize fmt) (ruleBytes fmt x ++ t) ≡ t)
+rule-read fmt x t c v d =
+    let s : List ℕ = ruleBytes fmt x ++ t in
+    let w : ℕ = wordBytes fmt in (
+      (λ j. rule (get w 0 (x .care) s _ (row-0 w w 2 (x .care) (x .value) (x .decision) t) c j)
+          (get w w (x .value) s _ (row-1 w w 2 (x .care) (x .value) (x .decision) t) v j)
+          (get 2 (w + w) (x .decision) s _ (row-2 w w 2 (x .care) (x .value) (x .decision) t) d j)),
+      ap (λ (k : ℕ). drop k s) (rule-words fmt) ∙ row-3 w w 2 (x .care) (x .value) (x .decision) t,
     )
 
-word : (x w : ℕ) → w ≤ 64 → x < 2 ^ w → x < 2 ^ 64
-word x w h lt = lt-of-lt-of-le lt (pow-mono h)
+-- what the width holds, a word of the format holds
+word : (fmt x w : ℕ) → w ≤ mostPlaces fmt → x < 2 ^ w → x < 256 ^ wordBytes fmt
+word fmt x w h lt =
+    subst (λ (k : ℕ). x < k) (ap (λ (k : ℕ). 2 ^ k) (places-words fmt) ∙ places-bytes (wordBytes fmt)) (lt-of-lt-of-le lt (pow-mono h))
 
-rules-read : (w : ℕ) (xs : List Rule) (t : List ℕ) → w ≤ 64 → All (Valid w) xs → rulesIn (length xs) (rulesBytes xs ++ t) ≡ xs
+rules-read : (fmt w : ℕ) (xs : List Rule) (t : List ℕ) → w ≤ mostPlaces fmt → All (Valid w) xs → rulesIn fmt (length xs) (rulesBytes fmt xs ++ t) ≡ xs
 unfolding rulesIn rulesBytes
-rules-read w [] t h v = refl
-rules-read w (x ∷ xs) t h v =
+rules-read fmt w [] t h v = refl
+rules-read fmt w (x ∷ xs) t h v =
     let k = v .0 in
     let small : x .value < 2 ^ w = omega (arith, k .fits, k .within, and-le-r (x .value) (x .care)) in
-    let one = rule-read x (rulesBytes xs ++ t) (word (x .care) w h (k .fits)) (word (x .value) w h small) (omega (arith, k .decides)) in
-    ap (λ (s : List ℕ). ruleIn s ∷ rulesIn (length xs) (drop 18 s)) (append-assoc (ruleBytes x) (rulesBytes xs) t)
-    ∙ (λ j. one .0 j ∷ rulesIn (length xs) (one .1 j))
-    ∙ ap (λ (ys : List Rule). x ∷ ys) (rules-read w xs t h (v .1))
+    let one = rule-read fmt x (rulesBytes fmt xs ++ t) (word fmt (x .care) w h (k .fits)) (word fmt (x .value) w h small) (omega (arith, k .decides)) in
+    ap (λ (s : List ℕ). ruleIn fmt s ∷ rulesIn fmt (length xs) (drop (ruleSize fmt) s)) (append-assoc (ruleBytes fmt x) (rulesBytes fmt xs) t)
+    ∙ (λ j. one .0 j ∷ rulesIn fmt (length xs) (one .1 j))
+    ∙ ap (λ (ys : List Rule). x ∷ ys) (rules-read fmt w xs t h (v .1))
 
-length-bodies : (ls : List Named) → length (bodiesBytes ls) ≡ 18 * allRules ls
+length-bodies : (fmt : ℕ) (ls : List Named) → length (bodiesBytes fmt ls) ≡ ruleSize fmt * allRules ls
 unfolding bodiesBytes
-length-bodies [] = refl
-length-bodies (l ∷ ls) = simp length-append (omega (arith, length-rulesBytes (l .rules), length-bodies ls))
+length-bodies fmt [] = omega arith
+length-bodies fmt (l ∷ ls) = simp length-append (omega (arith, length-rulesBytes fmt (l .rules), length-bodies fmt ls))
 
-lists-read : (w l next : ℕ) (ls : List Named) (t : List ℕ) → w ≤ 64 → listsCheck w l ls ≡ passed
-    → listsIn (entriesFor next ls) (bodiesBytes ls ++ t) ≡ ls
+lists-read : (fmt w l next : ℕ) (ls : List Named) (t : List ℕ) → w ≤ mostPlaces fmt → listsCheck w l ls ≡ passed
+    → listsIn fmt (entriesFor fmt next ls) (bodiesBytes fmt ls ++ t) ≡ ls
 unfolding listsIn entriesFor bodiesBytes listsCheck
-lists-read w l next [] t h f = refl
-lists-read w l next (x ∷ ls) t h f =
+lists-read fmt w l next [] t h f = refl
+lists-read fmt w l next (x ∷ ls) t h f =
     let valid = rules-valid w l 1 (x .rules) (bare-first (rulesCheck w l 1 (x .rules)) _ (bare-rules w l 1 (x .rules)) [] f) in
     let rest = then-second (rulesCheck w l 1 (x .rules)) _ [] f in
     let n : ℕ = length (x .rules) in
-    let es : List Entry = entriesFor (next + 18 * n) ls in
-    let u : List ℕ = bodiesBytes ls ++ t in
-    ap (λ (s : List ℕ). record { id = x .id; rules = rulesIn n s } ∷ listsIn es (drop (18 * n) s)) (append-assoc (rulesBytes (x .rules)) (bodiesBytes ls) t)
-    ∙ (λ j. record { id = x .id; rules = rules-read w (x .rules) u h valid j }
-    ∷ listsIn es (drop-at (rulesBytes (x .rules)) u (18 * n) (length-rulesBytes (x .rules)) j))
-    ∙ ap (λ (ys : List Named). x ∷ ys) (lists-read w (l + 1) (next + 18 * n) ls t h rest)
+    let es : List Entry = entriesFor fmt (next + ruleSize fmt * n) ls in
+    let u : List ℕ = bodiesBytes fmt ls ++ t in
+    ap (λ (s : List ℕ). record { id = x .id; rules = rulesIn fmt n s } ∷ listsIn fmt es (drop (ruleSize fmt * n) s)) (append-assoc (rulesBytes fmt (x .rules)) (bodiesBytes fmt ls) t)
+    ∙ (λ j. record { id = x .id; rules = rules-read fmt w (x .rules) u h valid j }
+    ∷ listsIn fmt es (drop-at (rulesBytes fmt (x .rules)) u (ruleSize fmt * n) (length-rulesBytes fmt (x .rules)) j))
+    ∙ ap (λ (ys : List Named). x ∷ ys) (lists-read fmt w (l + 1) (next + ruleSize fmt * n) ls t h rest)
 
 -- the entries that the writer makes
-length-entriesFor : (next : ℕ) (ls : List Named) → length (entriesFor next ls) ≡ length ls
+length-entriesFor : (fmt next : ℕ) (ls : List Named) → length (entriesFor fmt next ls) ≡ length ls
 unfolding entriesFor
-length-entriesFor next [] = refl
-length-entriesFor next (l ∷ ls) = ap suc (length-entriesFor (next + 18 * length (l .rules)) ls)
+length-entriesFor fmt next [] = refl
+length-entriesFor fmt next (l ∷ ls) = ap suc (length-entriesFor fmt (next + ruleSize fmt * length (l .rules)) ls)
 
-entries-read : (next least : ℕ) (ls : List Named) (t : List ℕ) → Rising least ls → next + 18 * allRules ls ≤ 65536
-    → entriesIn (length ls) (contentsBytes (entriesFor next ls) ++ t) ≡ entriesFor next ls
+entries-read : (fmt next least : ℕ) (ls : List Named) (t : List ℕ) → Rising least ls → next + ruleSize fmt * allRules ls ≤ 65536
+    → entriesIn (length ls) (contentsBytes (entriesFor fmt next ls) ++ t) ≡ entriesFor fmt next ls
 unfolding entriesIn entriesFor contentsBytes
-entries-read next least [] t r h = refl
-entries-read next least (l ∷ ls) t r h =
+entries-read fmt next least [] t r h = refl
+entries-read fmt next least (l ∷ ls) t r h =
     let n : ℕ = length (l .rules) in
     let e : Entry = entryWith next n (l .id) in
-    let u : List ℕ = contentsBytes (entriesFor (next + 18 * n) ls) in
+    let u : List ℕ = contentsBytes (entriesFor fmt (next + ruleSize fmt * n) ls) in
     let one = entry-read e (u ++ t) (omega arith) (omega arith) (r .1) in
     ap (λ (s : List ℕ). entryIn s ∷ entriesIn (length ls) (drop 8 s)) (append-assoc (entryBytes e) u t)
     ∙ (λ j. one .0 j ∷ entriesIn (length ls) (one .1 j))
-    ∙ ap (λ (ys : List Entry). e ∷ ys) (entries-read (next + 18 * n) (l .id + 1) ls t (r .3) (omega arith))
+    ∙ ap (λ (ys : List Entry). e ∷ ys) (entries-read fmt (next + ruleSize fmt * n) (l .id + 1) ls t (r .3) (omega arith))
 
-entries-fine : (size next least k : ℕ) (ls : List Named) → Rising least ls → next + 18 * allRules ls ≡ size
-    → entriesCheck size next least k (entriesFor next ls) ≡ passed
+entries-fine : (fmt size next least k : ℕ) (ls : List Named) → Rising least ls → next + ruleSize fmt * allRules ls ≡ size
+    → entriesCheck fmt size next least k (entriesFor fmt next ls) ≡ passed
 unfolding entriesFor entriesCheck
-entries-fine size next least k [] r h = let e : next ≡ size = omega arith in simp eq-eqb
-entries-fine size next least k (l ∷ ls) r h =
+entries-fine fmt size next least k [] r h = let e : next ≡ size = omega arith in simp eq-eqb
+entries-fine fmt size next least k (l ∷ ls) r h =
     let n : ℕ = length (l .rules) in
-    then-next _ _ (sym (entry-fine size next least k (entryWith next n (l .id)) (r .0) refl (r .2) (omega arith)))
-    ∙ entries-fine size (next + 18 * n) (l .id + 1) (k + 1) ls (r .3) (omega arith)
+    then-next _ _ (sym (entry-fine fmt size next least k (entryWith next n (l .id)) (r .0) refl (r .2) (omega arith)))
+    ∙ entries-fine fmt size (next + ruleSize fmt * n) (l .id + 1) (k + 1) ls (r .3) (omega arith)
 
-module _ (w : ℕ) (ls : List Named) (v : Carried w ls) where
-  pub length-bytesOf : length (bytesOf w ls) ≡ 4 + 8 * length ls + 18 * allRules ls
+module _ (fmt w : ℕ) (ls : List Named) (v : Carried fmt w ls) where
+  pub length-bytesOf : length (bytesOf fmt w ls) ≡ 4 + 8 * length ls + ruleSize fmt * allRules ls
   unfolding bytesOf
   length-bytesOf =
       simp length-append
-      (omega (arith, length-contents (entriesFor (4 + 8 * length ls) ls), length-entriesFor (4 + 8 * length ls) ls, length-bodies ls))
+      (omega (arith, length-contents (entriesFor fmt (4 + 8 * length ls) ls), length-entriesFor fmt (4 + 8 * length ls) ls, length-bodies fmt ls))
 
-  entries-are : entriesOf (bytesOf w ls) ≡ entriesFor (4 + 8 * length ls) ls
+  entries-are : entriesOf (bytesOf fmt w ls) ≡ entriesFor fmt (4 + 8 * length ls) ls
   unfolding entriesOf bytesOf
-  entries-are = entries-read (4 + 8 * length ls) 0 ls (bodiesBytes ls) (v .rising) (v .size)
+  entries-are = entries-read fmt (4 + 8 * length ls) 0 ls (bodiesBytes fmt ls) (v .rising) (v .size)
 
-  after : drop (4 + 8 * length ls) (bytesOf w ls) ≡ bodiesBytes ls ++ []
+  after : drop (4 + 8 * length ls) (bytesOf fmt w ls) ≡ bodiesBytes fmt ls ++ []
   unfolding bytesOf
   after =
-      sym (drop-drop (8 * length ls) 4 (bytesOf w ls))
-      ∙ drop-at (contentsBytes (entriesFor (4 + 8 * length ls) ls)) (bodiesBytes ls) (8 * length ls)
-      (length-contents (entriesFor (4 + 8 * length ls) ls) ∙ ap (λ (k : ℕ). 8 * k) (length-entriesFor (4 + 8 * length ls) ls))
-      ∙ sym (append-nil (bodiesBytes ls))
+      sym (drop-drop (8 * length ls) 4 (bytesOf fmt w ls))
+      ∙ drop-at (contentsBytes (entriesFor fmt (4 + 8 * length ls) ls)) (bodiesBytes fmt ls) (8 * length ls)
+      (length-contents (entriesFor fmt (4 + 8 * length ls) ls) ∙ ap (λ (k : ℕ). 8 * k) (length-entriesFor fmt (4 + 8 * length ls) ls))
+      ∙ sym (append-nil (bodiesBytes fmt ls))
 
-  lists-are : listsIn (entriesFor (4 + 8 * length ls) ls) (drop (4 + 8 * length ls) (bytesOf w ls)) ≡ ls
+  lists-are : listsIn fmt (entriesFor fmt (4 + 8 * length ls) ls) (drop (4 + 8 * length ls) (bytesOf fmt w ls)) ≡ ls
   unfolding bytesOf
   lists-are =
-      ap (listsIn (entriesFor (4 + 8 * length ls) ls)) after
-      ∙ lists-read w 1 (4 + 8 * length ls) ls [] (v .high) (v .rules)
+      ap (listsIn fmt (entriesFor fmt (4 + 8 * length ls) ls)) after
+      ∙ lists-read fmt w 1 (4 + 8 * length ls) ls [] (v .high) (v .rules)
 
-  pub carried-back : listsOf (bytesOf w ls) ≡ ls
+  pub carried-back : listsOf (bytesOf fmt w ls) ≡ ls
   unfolding listsOf bytesOf
-  carried-back = ap (λ (es : List Entry). listsIn es (drop (4 + 8 * length ls) (bytesOf w ls))) entries-are ∙ lists-are
+  carried-back = ap (λ (es : List Entry). listsIn fmt es (drop (4 + 8 * length ls) (bytesOf fmt w ls))) entries-are ∙ lists-are
 
-  head-ok : passed ≡ headCheck (bytesOf w ls)
+  head-ok : passed ≡ headCheck (bytesOf fmt w ls)
   unfolding bytesOf
   head-ok =
-      head-fine (bytesOf w ls) (omega (arith, length-bytesOf)) (omega (arith, length-bytesOf, v .size)) refl refl (v .low) (v .high) (v .some) (v .few)
+      head-fine (bytesOf fmt w ls) (omega (arith, length-bytesOf)) (omega (arith, length-bytesOf, v .size)) (v .format) refl (v .low) (v .high) (v .some) (v .few)
       (omega (arith, length-bytesOf))
 
-  contents-ok : contentsCheck (bytesOf w ls) ≡ passed
+  contents-ok : contentsCheck (bytesOf fmt w ls) ≡ passed
   unfolding contentsCheck bytesOf
   contents-ok =
-      ap (entriesCheck (length (bytesOf w ls)) (4 + 8 * length ls) 0 1) entries-are
-      ∙ entries-fine (length (bytesOf w ls)) (4 + 8 * length ls) 0 1 ls (v .rising) (sym length-bytesOf)
+      ap (entriesCheck fmt (length (bytesOf fmt w ls)) (4 + 8 * length ls) 0 1) entries-are
+      ∙ entries-fine fmt (length (bytesOf fmt w ls)) (4 + 8 * length ls) 0 1 ls (v .rising) (sym length-bytesOf)
 
-  bodies-ok : bodiesCheck (bytesOf w ls) ≡ passed
+  bodies-ok : bodiesCheck (bytesOf fmt w ls) ≡ passed
   unfolding bodiesCheck bytesOf
   bodies-ok = ap (listsCheck w 1) carried-back ∙ v .rules
 
   -- the image of lists that can be carried passes
-  pub carried-passes : imageCheck (bytesOf w ls) ≡ passed
+  pub carried-passes : imageCheck (bytesOf fmt w ls) ≡ passed
   unfolding imageCheck
   carried-passes =
-      then-next (headCheck (bytesOf w ls)) _ (sym head-ok)
-      ∙ then-next (contentsCheck (bytesOf w ls)) (bodiesCheck (bytesOf w ls)) contents-ok
+      then-next (headCheck (bytesOf fmt w ls)) _ (sym head-ok)
+      ∙ then-next (contentsCheck (bytesOf fmt w ls)) (bodiesCheck (bytesOf fmt w ls)) contents-ok
       ∙ bodies-ok

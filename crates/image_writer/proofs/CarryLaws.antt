@@ -6,25 +6,26 @@ use native.Mathlib.Omega.{arith}
 use lib.Dec.{leb}
 use lib.ListN.{length, take, drop, length-drop, length-append}
 use lib.Seq.{length-take-le, take-at, drop-at}
-use borrow.Author.Tests.{leb-true, le-leb, eq-eqb}
-use Rattle.rules.specs.declared.Rule.{Rule}
+use borrow.Author.Tests.{leb-true, le-leb}
+use Rattle.rules.specs.Rule.{Rule}
 use Rattle.rules.specs.Lists.{All}
 use Rattle.rules.specs.Replies.{passed, need}
 use Rattle.rules.specs.Checks.{sizeCheck}
 use Rattle.rules.specs.Slices.{rulesOf}
 use Rattle.rules.proofs.ReplyLaws.{then-next, then-second, need-then, need-yes}
-use Rattle.rules.proofs.CheckLaws.{width-yes, lengths-yes, room-yes}
-use Rattle.rules.proofs.Tests.{true-and}
 use Rattle.image.specs.Bytes.{le}
-use Rattle.image.specs.Images.{Named, named, Entry, listsIn, total, countIn, widthIn, entriesIn, entriesOf, listsOf}
+use Rattle.words.specs.Slices.{halvesOf}
+use Rattle.words.proofs.SliceLaws.{halves-length}
+use Rattle.image.specs.Formats.{ruleSize}
+use Rattle.image.specs.Images.{Named, named, Entry, listsIn, total, formatIn, countIn, widthIn, entriesIn, entriesOf, listsOf}
 use Rattle.image.specs.Checks.{entryCheck, entriesCheck, listsCheck, contentsCheck, headCheck, bodiesCheck, imageCheck}
-use Rattle.image.specs.Calls.{careOf, valueOf, decisionOf}
-use Rattle.image_writer.specs.Writing.{sumOf, cut, given, namesCheck, imageLength, givenCheck, shapeCheck, writeCheck}
+use Rattle.image.specs.Calls.{careOf, valueOf, decisionOf, caresOf, valuesOf, decisionsOf}
+use Rattle.image_writer.specs.Writing.{sumOf, cut, given, namesCheck, imageLength, writeCheck}
 use Rattle.image.proofs.BareLaws.{bare-first, bare-entry, bare-head, bare-contents}
 use Rattle.image.proofs.HeadLaws.{entry-facts, head-facts}
 use Rattle.image.proofs.StepLaws.{contents-total}
 use Rattle.image.proofs.SeekLaws.{length-rulesIn}
-use Rattle.image_writer.proofs.WriteLaws.{WriteFacts, length-cut, rules-given}
+use Rattle.image_writer.proofs.WriteLaws.{WriteFacts, facts-write, length-cut, rules-given}
 use Rattle.image.proofs.BackLaws.{AreBytes, bytes-drop, length-listsOf}
 use Rattle.image_writer.proofs.AgainLaws.{Rising, allRules, Carried}
 use Rattle.rules.proofs.SliceLaws.{rules-columns}
@@ -55,21 +56,22 @@ all-cut (i ∷ is) (n ∷ ns) rs h s =
     ap₂ (λ (x y : ℕ). x + y) (length-take-le n rs (omega arith)) (all-cut is ns (drop n rs) (omega arith) (omega (arith, length-drop n rs)))
 
 -- what a writer accepts can be carried
-pub facts-carried : (w : ℕ) (ids ns cs vs ds : List ℕ) (room : ℕ) → All (λ (i : ℕ). i < 65536) ids → WriteFacts w ids ns cs vs ds room → Carried w (given ids ns cs vs ds)
-facts-carried w ids ns cs vs ds room a f =
+pub facts-carried : (fmt w : ℕ) (ids ns cs vs ds : List ℕ) (room : ℕ) → All (λ (i : ℕ). i < 65536) ids → WriteFacts fmt w ids ns cs vs ds room → Carried fmt w (given ids ns cs vs ds)
+facts-carried fmt w ids ns cs vs ds room a f =
     let s = f .shape in
     let rs : List Rule = rulesOf cs vs ds in
-    let r : length rs ≡ length cs = rules-given w ids ns cs vs ds s in
+    let r : length rs ≡ length ds = rules-given fmt w ids ns cs vs ds s in
     let l = length-cut ids ns rs (s .paired) in
     let fits : sumOf ns ≤ length rs = omega (arith, s .sums) in
     record {
+      format = s .format;
       low = s .least;
       high = s .most;
       some = omega (arith, s .some);
       few = omega (arith, s .few);
       rising = rising-cut 1 0 ids ns rs a (s .paired) fits (f .names);
       rules = f .rules;
-      size = omega (arith, f .small, l, all-cut ids ns rs (s .paired) fits, s .sums);
+      size = omega (arith, f .small, l, ap (λ (k : ℕ). ruleSize fmt * k) (all-cut ids ns rs (s .paired) fits ∙ s .sums));
     }
 
 -- ---- back to a writer's arguments
@@ -115,6 +117,9 @@ pub length-column : (f : Rule → ℕ) (rs : List Rule) → length (map f rs) �
 length-column f [] = refl
 length-column f (r ∷ rs) = ap suc (length-column f rs)
 
+pub length-words : (f : Rule → ℕ) (rs : List Rule) → length (halvesOf (map f rs)) ≡ length rs * 2
+length-words f rs = halves-length (map f rs) ∙ ap (λ (k : ℕ). k * 2) (length-column f rs)
+
 names-rising : (l least : ℕ) (ls : List Named) → Rising least ls → namesCheck l least (namesOf ls) (countsOf ls) ≡ passed
 unfolding namesCheck sizeCheck
 names-rising l least [] r = refl
@@ -124,58 +129,63 @@ names-rising l least (x ∷ ls) r =
     ∙ names-rising (l + 1) (x .id + 1) ls (r .3)
 
 -- lists that can be carried pass the writer's checks, where there is room
-pub carried-writes : (w : ℕ) (ls : List Named) (room : ℕ) → Carried w ls → imageLength (length ls) (allRules ls) ≤ room
-    → writeCheck w (namesOf ls) (countsOf ls) (map careOf (joined ls)) (map valueOf (joined ls)) (map decisionOf (joined ls)) room ≡ passed
-unfolding writeCheck shapeCheck givenCheck
-carried-writes w ls room v h =
+pub carried-writes : (fmt w : ℕ) (ls : List Named) (room : ℕ) → Carried fmt w ls → imageLength fmt (length ls) (allRules ls) ≤ room
+    → writeCheck fmt w (namesOf ls) (countsOf ls) (caresOf (joined ls)) (valuesOf (joined ls)) (decisionsOf (joined ls)) room ≡ passed
+carried-writes fmt w ls room v h =
     let ids = namesOf ls in
     let ns = countsOf ls in
-    let cs = map careOf (joined ls) in
-    let vs = map valueOf (joined ls) in
-    let ds = map decisionOf (joined ls) in
+    let cs = caresOf (joined ls) in
+    let vs = valuesOf (joined ls) in
+    let ds = decisionsOf (joined ls) in
     let li : length ids ≡ length ls = length-names ls in
-    let lc : length cs ≡ allRules ls = length-column careOf (joined ls) ∙ length-joined ls in
-    let lv : length vs ≡ allRules ls = length-column valueOf (joined ls) ∙ length-joined ls in
-    let ld : length ds ≡ allRules ls = length-column decisionOf (joined ls) ∙ length-joined ls in
-    let g : givenCheck ids ns cs vs ds ≡ passed = then-next _ _ (need-yes _ 2 0 0 (eq-eqb (length ids) (length ns) (li ∙ sym (length-counts ls))))
-    ∙ then-next _ _ (lengths-yes cs vs ds (lc ∙ sym lv) (lc ∙ sym ld))
-    ∙ need-yes _ 2 0 0 (eq-eqb (sumOf ns) (length cs) (sum-counts ls ∙ sym lc)) in
-    let s : shapeCheck w ids ns cs vs ds ≡ passed = then-next _ _ (width-yes w (true-and (le-leb 1 w (v .low)) (le-leb w 64 (v .high))))
-    ∙ then-next _ _ g
-    ∙ then-next _ _ (need-yes _ 12 0 0 (le-leb 1 (length ids) (omega (arith, v .some))))
-    ∙ need-yes _ 12 0 0 (le-leb (length ids) 16 (omega (arith, v .few))) in
+    let lc : length cs ≡ length (joined ls) * 2 = length-words careOf (joined ls) in
+    let lv : length vs ≡ length (joined ls) * 2 = length-words valueOf (joined ls) in
+    let ld : length ds ≡ length (joined ls) = length-column decisionOf (joined ls) in
+    let size : imageLength fmt (length ids) (length ds) ≡ imageLength fmt (length ls) (allRules ls) = ap₂ (imageLength fmt) li (ld ∙ length-joined ls) in
     let same : given ids ns cs vs ds ≡ ls = ap (cut ids ns) (rules-columns (joined ls)) ∙ cut-joined ls in
-    then-next _ _ s
-    ∙ then-next _ _ (names-rising 1 0 ls (v .rising))
-    ∙ then-next _ _ (ap (listsCheck w 1) same ∙ v .rules)
-    ∙ then-next _ _ (need-yes _ 10 0 0 (le-leb (imageLength (length ids) (length cs)) 65536 (omega (arith, v .size))))
-    ∙ room-yes _ _ (omega arith)
+    facts-write fmt w ids ns cs vs ds room
+    (record {
+      shape = record {
+        format = v .format;
+        least = v .low;
+        most = v .high;
+        paired = length-counts ls ∙ sym li;
+        lent = record { values = lv ∙ sym lc; decisions = omega arith };
+        sums = sum-counts ls ∙ sym (ld ∙ length-joined ls);
+        some = omega (arith, v .some);
+        few = omega (arith, v .few);
+      };
+      names = names-rising 1 0 ls (v .rising);
+      rules = ap (listsCheck w 1) same ∙ v .rules;
+      small = omega (arith, v .size);
+      fits = omega arith;
+    })
 
 -- ---- the lists of an image that passed can be carried
 
-rising-in : (size next least l : ℕ) (es : List Entry) (s : List ℕ) → All (λ (e : Entry). e .id < 65536) es → entriesCheck size next least l es ≡ passed → Rising least (listsIn es s)
+rising-in : (fmt size next least l : ℕ) (es : List Entry) (s : List ℕ) → All (λ (e : Entry). e .id < 65536) es → entriesCheck fmt size next least l es ≡ passed → Rising least (listsIn fmt es s)
 unfolding entriesCheck listsIn
-rising-in size next least l [] s a f = tt
-rising-in size next least l (e ∷ es) s a f =
-    let k = entry-facts size next least l e (bare-first (entryCheck size next least l e) _ (bare-entry size next least l e) [] f) in (
+rising-in fmt size next least l [] s a f = tt
+rising-in fmt size next least l (e ∷ es) s a f =
+    let k = entry-facts fmt size next least l e (bare-first (entryCheck fmt size next least l e) _ (bare-entry fmt size next least l e) [] f) in (
       k .rises,
       a .0,
-      omega (arith, k .few, length-rulesIn (e .count) s),
-      rising-in size (next + 18 * e .count) (e .id + 1) (l + 1) es (drop (18 * e .count) s) (a .1) (then-second (entryCheck size next least l e) _ [] f),
+      omega (arith, k .few, length-rulesIn fmt (e .count) s),
+      rising-in fmt size (next + ruleSize fmt * e .count) (e .id + 1) (l + 1) es (drop (ruleSize fmt * e .count) s) (a .1) (then-second (entryCheck fmt size next least l e) _ [] f),
     )
 
-all-in : (es : List Entry) (s : List ℕ) → allRules (listsIn es s) ≡ total es
+all-in : (fmt : ℕ) (es : List Entry) (s : List ℕ) → allRules (listsIn fmt es s) ≡ total es
 unfolding listsIn total
-all-in [] s = refl
-all-in (e ∷ es) s = ap₂ (λ (x y : ℕ). x + y) (length-rulesIn (e .count) s) (all-in es (drop (18 * e .count) s))
+all-in fmt [] s = refl
+all-in fmt (e ∷ es) s = ap₂ (λ (x y : ℕ). x + y) (length-rulesIn fmt (e .count) s) (all-in fmt es (drop (ruleSize fmt * e .count) s))
 
 sums-in : (b : List ℕ) → allRules (listsOf b) ≡ total (entriesOf b)
 unfolding listsOf
-sums-in b = all-in (entriesOf b) (drop (4 + 8 * countIn b) b)
+sums-in b = all-in (formatIn b) (entriesOf b) (drop (4 + 8 * countIn b) b)
 
 rises-in : (b : List ℕ) → All (λ (e : Entry). e .id < 65536) (entriesOf b) → contentsCheck b ≡ passed → Rising 0 (listsOf b)
 unfolding listsOf contentsCheck
-rises-in b a c = rising-in (length b) (4 + 8 * countIn b) 0 1 (entriesOf b) (drop (4 + 8 * countIn b) b) a c
+rises-in b a c = rising-in (formatIn b) (length b) (4 + 8 * countIn b) 0 1 (entriesOf b) (drop (4 + 8 * countIn b) b) a c
 
 -- two bytes are below 65,536
 two-below : (t : List ℕ) → AreBytes t → le (take 2 t) < 65536
@@ -194,7 +204,7 @@ unfolding entriesOf
 ids-fit b h = ids-below (countIn b) (drop 4 b) (bytes-drop 4 b h)
 
 pub image-carried : (b : List ℕ) → All (λ (e : Entry). e .id < 65536) (entriesOf b) → imageCheck b ≡ passed
-    → Carried (widthIn b) (listsOf b) × (imageLength (length (listsOf b)) (allRules (listsOf b)) ≡ length b)
+    → Carried (formatIn b) (widthIn b) (listsOf b) × (imageLength (formatIn b) (length (listsOf b)) (allRules (listsOf b)) ≡ length b)
 unfolding imageCheck contentsCheck bodiesCheck
 image-carried b a f =
     let k = head-facts b (bare-first (headCheck b) _ (bare-head b) [] f) in
@@ -202,8 +212,10 @@ image-carried b a f =
     let c : contentsCheck b ≡ passed = bare-first (contentsCheck b) _ (bare-contents b) [] g in
     let l = length-listsOf b in
     let n = sums-in b in
+    let m = ap (λ (k : ℕ). ruleSize (formatIn b) * k) n in
     let t = contents-total b c in (
       record {
+        format = k .zeroth;
         low = k .wide;
         high = k .narrow;
         some = omega (arith, k .some);

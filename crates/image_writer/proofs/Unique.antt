@@ -7,6 +7,6 @@ use Rattle.image.proofs.Unique.{one-outcome}
 use Rattle.image_writer.specs.Writing.{Written}
 
 -- `write`
-pub write-once : (w : ℕ) (ids ns cs vs ds out : List ℕ) (x y : Outcome) (out₁ out₂ : List ℕ)
-    → Written w ids ns cs vs ds out x out₁ → Written w ids ns cs vs ds out y out₂ → (x ≡ y) × (out₁ ≡ out₂)
-write-once w ids ns cs vs ds out x y out₁ out₂ p q = (one-outcome x y (p .answer ∙ sym (q .answer)), p .bytes ∙ sym (q .bytes))
+pub write-once : (f w : ℕ) (ids ns cs vs ds out : List ℕ) (x y : Outcome) (out₁ out₂ : List ℕ)
+    → Written f w ids ns cs vs ds out x out₁ → Written f w ids ns cs vs ds out y out₂ → (x ≡ y) × (out₁ ≡ out₂)
+write-once f w ids ns cs vs ds out x y out₁ out₂ p q = (one-outcome x y (p .answer ∙ sym (q .answer)), p .bytes ∙ sym (q .bytes))

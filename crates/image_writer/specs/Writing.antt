@@ -4,11 +4,12 @@ use Prim.Native.Nat.{ℕ, _+_, _*_}
 use mathlib.Core.List.{List, [], _∷_, _++_}
 use lib.ListN.{length, take, drop}
 use lib.Dec.{leb, eqb}
-use Rattle.rules.specs.declared.Rule.{Rule}
+use Rattle.rules.specs.Rule.{Rule}
 use Rattle.rules.specs.Slices.{rulesOf}
 use Rattle.rules.specs.Replies.{Reply, Gives, passed, need, _then_, unlessRefused}
-use Rattle.rules.specs.Checks.{widthCheck, lengthsCheck, sizeCheck, roomCheck}
+use Rattle.rules.specs.Checks.{lengthsCheck, sizeCheck, roomCheck}
 use Rattle.image.specs.declared.Outcome.{Outcome}
+use Rattle.image.specs.Formats.{ruleSize, formatCheck, rangeCheck}
 use Rattle.image.specs.Images.{Named, named, bytesOf}
 use Rattle.image.specs.Checks.{listsCheck}
 use Rattle.image.specs.Replies.{outcomeReply}
@@ -37,43 +38,44 @@ namesCheck l least (i ∷ is) (n ∷ ns) =
     then namesCheck (l + 1) (i + 1) is ns
 
 -- The bytes of an image of so many lists and rules.
-abbrev pub imageLength : (lists rules : ℕ) → ℕ
-imageLength l n = 4 + 8 * l + 18 * n
+abbrev pub imageLength : (f lists rules : ℕ) → ℕ
+imageLength f l n = 4 + 8 * l + ruleSize f * n
 
 -- 2: slices that belong together differ in length, or the counts do not add up to the rules given.
 unfoldable pub givenCheck : (ids counts cares values decisions : List ℕ) → Reply
 givenCheck ids ns cs vs ds =
     need (eqb (length ids) (length ns)) 2 0 0
     then lengthsCheck cs vs ds
-    then need (eqb (sumOf ns) (length cs)) 2 0 0
+    then need (eqb (sumOf ns) (length ds)) 2 0 0
 
--- 1, 2 and 12 (the number of lists).
-unfoldable pub shapeCheck : (w : ℕ) → (ids counts cares values decisions : List ℕ) → Reply
-shapeCheck w ids ns cs vs ds =
-    widthCheck w
+-- 11 (the format), 1, 2 and 12 (the number of lists).
+unfoldable pub shapeCheck : (f w : ℕ) → (ids counts cares values decisions : List ℕ) → Reply
+shapeCheck f w ids ns cs vs ds =
+    formatCheck f
+    then rangeCheck f w
     then givenCheck ids ns cs vs ds
     then need (leb 1 (length ids)) 12 0 0
     then need (leb (length ids) 16) 12 0 0
 
--- The writer's checks: 1, 2, 12, per list 13 and 3, the rules, 10, 7.
-unfoldable pub writeCheck : (w : ℕ) → (ids counts cares values decisions : List ℕ) → (room : ℕ) → Reply
-writeCheck w ids ns cs vs ds room =
-    shapeCheck w ids ns cs vs ds
+-- The writer's checks: 11, 1, 2, 12, per list 13 and 3, the rules, 10, 7.
+unfoldable pub writeCheck : (f w : ℕ) → (ids counts cares values decisions : List ℕ) → (room : ℕ) → Reply
+writeCheck f w ids ns cs vs ds room =
+    shapeCheck f w ids ns cs vs ds
     then namesCheck 1 0 ids ns
     then listsCheck w 1 (given ids ns cs vs ds)
-    then need (leb (imageLength (length ids) (length cs)) 65536) 10 0 0
-    then roomCheck (imageLength (length ids) (length cs)) room
+    then need (leb (imageLength f (length ids) (length ds)) 65536) 10 0 0
+    then roomCheck (imageLength f (length ids) (length ds)) room
 
 -- The answer is the image's length.
-unfoldable pub writeReply : (w : ℕ) → (ids counts cares values decisions out : List ℕ) → Reply
-writeReply w ids ns cs vs ds out =
-    writeCheck w ids ns cs vs ds (length out) then Gives (imageLength (length ids) (length cs) ∷ [])
+unfoldable pub writeReply : (f w : ℕ) → (ids counts cares values decisions out : List ℕ) → Reply
+writeReply f w ids ns cs vs ds out =
+    writeCheck f w ids ns cs vs ds (length out) then Gives (imageLength f (length ids) (length ds) ∷ [])
 
 -- Bytes that held `out`, after an image went into them from the first on: later bytes are as they were.
 abbrev pub imaged : (image out : List ℕ) → List ℕ
 imaged bs out = bs ++ drop (length bs) out
 
 -- Writing: the answer, and the lent bytes afterwards.
-pub record Written (w : ℕ) (ids ns cs vs ds out : List ℕ) (r : Outcome) (out′ : List ℕ) : Type 0 where
-  pub answer : outcomeReply r ≡ writeReply w ids ns cs vs ds out
-  pub bytes : out′ ≡ unlessRefused (writeReply w ids ns cs vs ds out) (imaged (bytesOf w (given ids ns cs vs ds)) out) out
+pub record Written (f w : ℕ) (ids ns cs vs ds out : List ℕ) (r : Outcome) (out′ : List ℕ) : Type 0 where
+  pub answer : outcomeReply r ≡ writeReply f w ids ns cs vs ds out
+  pub bytes : out′ ≡ unlessRefused (writeReply f w ids ns cs vs ds out) (imaged (bytesOf f w (given ids ns cs vs ds)) out) out

@@ -1,4 +1,5 @@
 // The writer of images that carry rule lists.
+mod formats;
 mod puts;
 mod writing;
 

@@ -4,9 +4,13 @@ ghost use Prim.Native.Nat.{_+_, _*_, _≤_};
 ghost use lib.Dec.{eqb};
 ghost use lib.ListN.{length};
 ghost use Rattle.rules.specs.Replies.{verdictReply, passed, Refuses};
+ghost use Rattle.rules.specs.Checks.{widest};
 ghost use Rattle.rules.specs.Slices.{Lent};
 ghost use Rattle.image.specs.Checks.{listsCheck};
 ghost use Rattle.image_writer.specs.Writing.{sumOf, given, namesCheck, givenCheck, shapeCheck, writeCheck, Written};
+use crate::formats::body_size;
+use crate::formats::is_known;
+use crate::formats::most_places;
 use crate::puts::put_contents;
 use crate::puts::put_head;
 use crate::puts::put_rules;
@@ -57,17 +61,18 @@ fn given_verdict(
     if care.len() != value.len() {
         return refused(2, 0, 0);
     }
-    if care.len() != decision.len() {
+    if care.len() != decision.len() * 2 {
         return refused(2, 0, 0);
     }
-    if adds_up(counts, care.len()) {
+    if adds_up(counts, decision.len()) {
         return Verdict::Fine;
     }
     refused(2, 0, 0)
 }
 
-// Refusals 1, 2 and 12.
+// Refusals 11, 1, 2 and 12.
 fn shape_verdict(
+    format: u8,
     width: u32,
     ids: &[u16],
     counts: &[u16],
@@ -75,13 +80,16 @@ fn shape_verdict(
     value: &[u64],
     decision: &[u16],
 ) -> Verdict
-    ensures { λ r. ⌜ verdictReply r ≡ shapeCheck width (now (ids .entry)) (now (counts .entry))
+    ensures { λ r. ⌜ verdictReply r ≡ shapeCheck format width (now (ids .entry)) (now (counts .entry))
         (now (care .entry)) (now (value .entry)) (now (decision .entry)) ⌝ }
 {
+    if !is_known(format) {
+        return refused(11, 0, 0);
+    }
     if width < 1 {
         return refused(1, 0, 0);
     }
-    if width > 64 {
+    if width > most_places(format) {
         return refused(1, 0, 0);
     }
     let v = given_verdict(ids, counts, care, value, decision);
@@ -127,8 +135,8 @@ fn lists_verdict(
     value: &[u64],
     decision: &[u16],
 ) -> Verdict
-    requires { ⌜ (1 ≤ width) × (width ≤ 64) × (length (now counts) ≡ length (now ids))
-        × (sumOf (now counts) ≡ length (now care)) × Lent (now care) (now value) (now decision)
+    requires { ⌜ (1 ≤ width) × (width ≤ widest) × (length (now counts) ≡ length (now ids))
+        × (sumOf (now counts) ≡ length (now decision)) × Lent (now care) (now value) (now decision)
         × (namesCheck 1 0 (now ids) (now counts) ≡ passed) ⌝ }
     ensures { λ r. ⌜ verdictReply r ≡ listsCheck width 1 (given (now (ids .entry)) (now (counts .entry))
         (now (care .entry)) (now (value .entry)) (now (decision .entry))) ⌝ }
@@ -137,11 +145,13 @@ fn lists_verdict(
     let mut i: usize = 0;
     while i < ids.len() {
         let end = from + wide16(counts[i]);
+        let first = from * 2;
+        let last = end * 2;
         let v = check_list_as(
             i + 1,
             width,
-            &care[from..end],
-            &value[from..end],
+            &care[first..last],
+            &value[first..last],
             &decision[from..end],
         );
         let Verdict::Fine = v else {
@@ -155,6 +165,7 @@ fn lists_verdict(
 
 // All checks of the writer, with `room` bytes lent.
 fn write_verdict(
+    format: u8,
     width: u32,
     ids: &[u16],
     counts: &[u16],
@@ -163,10 +174,10 @@ fn write_verdict(
     decision: &[u16],
     room: usize,
 ) -> Verdict
-    ensures { λ r. ⌜ verdictReply r ≡ writeCheck width (now (ids .entry)) (now (counts .entry))
+    ensures { λ r. ⌜ verdictReply r ≡ writeCheck format width (now (ids .entry)) (now (counts .entry))
         (now (care .entry)) (now (value .entry)) (now (decision .entry)) room ⌝ }
 {
-    let s = shape_verdict(width, ids, counts, care, value, decision);
+    let s = shape_verdict(format, width, ids, counts, care, value, decision);
     let Verdict::Fine = s else {
         return s;
     };
@@ -178,7 +189,7 @@ fn write_verdict(
     let Verdict::Fine = l else {
         return l;
     };
-    let size = 4 + 8 * ids.len() + 18 * care.len();
+    let size = 4 + 8 * ids.len() + body_size(format, decision.len());
     if size > 65536 {
         return refused(10, 0, 0);
     }
@@ -188,9 +199,10 @@ fn write_verdict(
     Verdict::Fine
 }
 
-// Writes the image of lists: `counts` says how many of the rules belong to each id, in order. The answer is the image's
-// length, and only its bytes change. Checks 1, 2, 12, per list 13 and 3, the rules, 10, 7.
+// Writes the image of lists in a format: `counts` says how many of the rules belong to each id, in order. The answer is the
+// image's length, and only its bytes change. Checks 11 of the format, 1, 2, 12, per list 13 and 3, the rules, 10, 7.
 pub fn write(
+    format: u8,
     width: u32,
     ids: &[u16],
     counts: &[u16],
@@ -199,17 +211,17 @@ pub fn write(
     decision: &[u16],
     out: &mut [u8],
 ) -> Outcome
-    ensures { λ r. ⌜ Written width (now (ids .entry)) (now (counts .entry))
+    ensures { λ r. ⌜ Written format width (now (ids .entry)) (now (counts .entry))
         (now (care .entry)) (now (value .entry)) (now (decision .entry)) (now (out .entry)) r (now (out .exit)) ⌝ }
 {
-    let v = write_verdict(width, ids, counts, care, value, decision, out.len());
+    let v = write_verdict(format, width, ids, counts, care, value, decision, out.len());
     if let Verdict::Refused(x) = v {
         return Outcome::Refused(x);
     }
     let lists = ids.len();
     let from = 4 + 8 * lists;
-    put_head(out, width, lists);
-    put_contents(out, ids, counts);
-    put_rules(out, from, care, value, decision);
-    Outcome::Number(from + 18 * care.len())
+    put_head(out, format, width, lists);
+    put_contents(out, format, ids, counts);
+    put_rules(out, format, from, care, value, decision);
+    Outcome::Number(from + body_size(format, decision.len()))
 }

@@ -7,14 +7,14 @@ use Prim.Native.Nat.{ℕ, zero, suc, _+_, _-_, _≤_, _<_}
 use native.Mathlib.Numerals.{add-one}
 use native.Mathlib.Omega.{arith}
 use lib.Dec.{eqb}
-use Rattle.rules.specs.declared.Rule.{Rule}
+use Rattle.rules.specs.Rule.{Rule}
 use Rattle.rules.specs.declared.Refusal.{Refusal}
 use Rattle.rules.specs.declared.Verdict.{Verdict}
 use Rattle.rules.specs.Rules.{crosses}
 use Rattle.rules.specs.Slices.{ruleAt}
 use Rattle.rules.specs.Replies.{Reply, Gives, Refuses, passed, need, _then_, verdictReply}
 use Rattle.prefixes.specs.Prefix.{crossesWith, crossesAmong}
-use Rattle.rules.proofs.Tests.{split, eqb-yes, no-eqb}
+use Rattle.words.proofs.Tests.{split, eqb-yes, no-eqb}
 use Rattle.rules.proofs.ReplyLaws.{then-next, then-refuses, gives-refuses, need-yes, need-no}
 
 -- ---- replies

@@ -4,12 +4,13 @@ use mathlib.Core.List.{List}
 use Prim.Native.Nat.{ℕ}
 use Rattle.swaps.specs.declared.swaps.SwapAnswer.{SwapAnswer}
 use Rattle.rules.specs.Slices.{rulesOf}
+use Rattle.rules.specs.Checks.{widest}
 use Rattle.swaps.specs.SwapCalls.{SwapGiven}
 use Rattle.prefixes.specs.Prefix.{checkPrefix, prefixSwap}
 use Rattle.swaps.proofs.SwapUnique.{one-swap-given}
 
 -- `prefix_swap`
 pub prefix-swap-once : (w : ℕ) (cs vs ds : List ℕ) (a b : SwapAnswer)
-    → SwapGiven 64 (checkPrefix w cs vs ds) (prefixSwap 64 w (rulesOf cs vs ds)) a
-    → SwapGiven 64 (checkPrefix w cs vs ds) (prefixSwap 64 w (rulesOf cs vs ds)) b → a ≡ b
-prefix-swap-once w cs vs ds a b p q = one-swap-given 64 _ _ a b p q
+    → SwapGiven widest (checkPrefix w cs vs ds) (prefixSwap widest w (rulesOf cs vs ds)) a
+    → SwapGiven widest (checkPrefix w cs vs ds) (prefixSwap widest w (rulesOf cs vs ds)) b → a ≡ b
+prefix-swap-once w cs vs ds a b p q = one-swap-given widest _ _ a b p q

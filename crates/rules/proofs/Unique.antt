@@ -3,7 +3,10 @@ use mathlib.Core.Path.{_≡_, sym, _∙_}
 use mathlib.Core.List.{List}
 use mathlib.Core.Bool.{Bool}
 use Prim.Native.Nat.{ℕ}
-use Rattle.rules.specs.declared.Rule.{Rule}
+use Rattle.rules.specs.declared.Rule.{Rule as Held}
+use Rattle.rules.specs.Rule.{Rule, held}
+use Rattle.words.specs.declared.Word.{Word}
+use Rattle.words.specs.Halves.{num}
 use Rattle.rules.specs.declared.Wire.{Wire}
 use Rattle.rules.specs.declared.Verdict.{Verdict}
 use Rattle.rules.specs.declared.Looked.{Looked}
@@ -28,14 +31,14 @@ pub check-list-once : (w l : ℕ) (cs vs ds : List ℕ) (a b : Verdict) → verd
     → verdictReply b ≡ checkList w l cs vs ds → a ≡ b
 check-list-once w l cs vs ds a b p q = one-verdict a b (both p q)
 
--- `lookup_number`
-pub lookup-number-once : (w : ℕ) (cs vs ds : List ℕ) (h : ℕ) (a b : Looked) → lookedReply a ≡ lookedUp w cs vs ds h
-    → lookedReply b ≡ lookedUp w cs vs ds h → a ≡ b
+-- `lookup_number`: the number that its word holds
+pub lookup-number-once : (w : ℕ) (cs vs ds : List ℕ) (h : Word) (a b : Looked) → lookedReply a ≡ lookedUp w cs vs ds (num h)
+    → lookedReply b ≡ lookedUp w cs vs ds (num h) → a ≡ b
 lookup-number-once w cs vs ds h a b p q = one-looked a b (both p q)
 
 -- `lookup`: the number of its header
-pub lookup-once : (w : ℕ) (cs vs ds : List ℕ) (h : Wire) (a b : Looked) → lookedReply a ≡ lookedUp w cs vs ds (h .0)
-    → lookedReply b ≡ lookedUp w cs vs ds (h .0) → a ≡ b
+pub lookup-once : (w : ℕ) (cs vs ds : List ℕ) (h : Wire) (a b : Looked) → lookedReply a ≡ lookedUp w cs vs ds (num (h .0))
+    → lookedReply b ≡ lookedUp w cs vs ds (num (h .0)) → a ≡ b
 lookup-once w cs vs ds h a b p q = one-looked a b (both p q)
 
 -- `covers`
@@ -58,11 +61,11 @@ pub rule-crosses-once : (x y : Rule) (a b : Bool) → a ≡ crosses x y → b �
 rule-crosses-once x y a b p q = both p q
 
 -- `rule_at`
-pub rule-at-once : (cs vs ds : List ℕ) (i : ℕ) (a b : Rule) → a ≡ ruleAt (rulesOf cs vs ds) i → b ≡ ruleAt (rulesOf cs vs ds) i → a ≡ b
+pub rule-at-once : (cs vs ds : List ℕ) (i : ℕ) (a b : Held) → a ≡ held (ruleAt (rulesOf cs vs ds) i) → b ≡ held (ruleAt (rulesOf cs vs ds) i) → a ≡ b
 rule-at-once cs vs ds i a b p q = both p q
 
 -- `put_rule`: what the three slices hold afterwards
-pub put-rule-once : (cs vs ds : List ℕ) (i : ℕ) (r : Rule) (c v d c′ v′ d′ : List ℕ) → Placed cs vs ds i r c v d → Placed cs vs ds i r c′ v′ d′
+pub put-rule-once : (cs vs ds : List ℕ) (i : ℕ) (r : Held) (c v d c′ v′ d′ : List ℕ) → Placed cs vs ds i r c v d → Placed cs vs ds i r c′ v′ d′
     → (c ≡ c′) × (v ≡ v′) × (d ≡ d′)
 put-rule-once cs vs ds i r c v d c′ v′ d′ p q =
     (both (p .cares) (q .cares), both (p .values) (q .values), both (p .decisions) (q .decisions))

@@ -17,17 +17,18 @@ pub use patterns::rule_covers;
 pub use patterns::rule_crosses;
 pub use slices::put_rule;
 pub use slices::rule_at;
+use words::Word;
 
 // A ternary pattern with a decision. A care bit of 1 means that the place is 0 or 1 as the value bit says; a care bit of
 // 0 is a star, and the value bit there is 0.
 pub struct Rule {
-    pub care: u64,
-    pub value: u64,
+    pub care: Word,
+    pub value: Word,
     pub decision: u16,
 }
 
 // A header in wire order.
-pub struct Wire(pub u64);
+pub struct Wire(pub Word);
 
 // Why a call was refused: the number of the refusal and its place, which is a list and a rule counted from 1, or 0 and 0.
 pub struct Refusal {

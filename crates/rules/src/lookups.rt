@@ -1,5 +1,6 @@
 // Looking a header up: the first match decides.
 ghost use mathlib.Core.Path.{_≡_};
+ghost use Rattle.words.specs.Halves.{num};
 ghost use Rattle.rules.specs.Rules.{position};
 ghost use Rattle.rules.specs.Slices.{rulesOf, Lent};
 ghost use Rattle.rules.specs.Replies.{lookedReply};
@@ -10,9 +11,9 @@ use crate::Refusal;
 use crate::Verdict;
 use crate::Wire;
 use crate::checks::check_list;
-use crate::patterns::below;
 use crate::patterns::rule_matches;
 use crate::slices::rule_at;
+use words::Word;
 
 // Where the first matching rule stands, counted from 0.
 pub(crate) enum Found {
@@ -21,12 +22,12 @@ pub(crate) enum Found {
 }
 
 // The first rule that matches.
-pub(crate) fn first_match(care: &[u64], value: &[u64], decision: &[u16], header: u64) -> Found
+pub(crate) fn first_match(care: &[u64], value: &[u64], decision: &[u16], header: Word) -> Found
     requires { ⌜ Lent (now care) (now value) (now decision) ⌝ }
-    ensures { λ r. ⌜ FirstAt (rulesOf (now (care .entry)) (now (value .entry)) (now (decision .entry))) header r ⌝ }
+    ensures { λ r. ⌜ FirstAt (rulesOf (now (care .entry)) (now (value .entry)) (now (decision .entry))) (num header) r ⌝ }
 {
     let mut i: usize = 0;
-    while i < care.len() {
+    while i < decision.len() {
         if rule_matches(rule_at(care, value, decision, i), header) {
             return Found::At(i);
         }
@@ -42,16 +43,16 @@ pub fn lookup_number(
     care: &[u64],
     value: &[u64],
     decision: &[u16],
-    header: u64,
+    header: Word,
 ) -> Looked
     ensures { λ r. ⌜ lookedReply r
-        ≡ lookedUp width (now (care .entry)) (now (value .entry)) (now (decision .entry)) header ⌝ }
+        ≡ lookedUp width (now (care .entry)) (now (value .entry)) (now (decision .entry)) (num header) ⌝ }
 {
     let v = check_list(width, care, value, decision);
     if let Verdict::Refused(x) = v {
         return Looked::Refused(x);
     }
-    if below(header, width) {
+    if words::below(header, width) {
         let Found::At(i) = first_match(care, value, decision, header) else {
             return Looked::Miss;
         };
@@ -68,7 +69,7 @@ pub fn lookup_number(
 // Looks a header in wire order up.
 pub fn lookup(width: u32, care: &[u64], value: &[u64], decision: &[u16], header: Wire) -> Looked
     ensures { λ r. ⌜ lookedReply r
-        ≡ lookedUp width (now (care .entry)) (now (value .entry)) (now (decision .entry)) (header .0) ⌝ }
+        ≡ lookedUp width (now (care .entry)) (now (value .entry)) (now (decision .entry)) (num (header .0)) ⌝ }
 {
     lookup_number(width, care, value, decision, header.0)
 }

@@ -1,14 +1,18 @@
 -- What a comparison with room for 1,000 runs left is what its lines say.
-use mathlib.Core.Path.{_≡_, ap, ap₂, _∙_}
+use mathlib.Core.Path.{_≡_, ap₂, _∙_, subst}
 use Prim.Native.Nat.{ℕ}
 use mathlib.Core.List.{List, []}
 use lib.ListN.{length, replicate, length-replicate}
+use Rattle.words.specs.declared.Word.{Word}
+use Rattle.words.specs.Halves.{num, halves}
+use Rattle.words.specs.Slices.{halvesOf}
+use Rattle.words.proofs.WordLaws.{holds}
 use Rattle.rules.specs.Replies.{Reply, Gives, _then_, unlessRefused}
 use Rattle.compare.specs.declared.Compared.{Compared}
 use Rattle.compare.specs.Runs.{Run, portion, ending}
 use Rattle.compare.specs.Calls.{Outcome}
 use Rattle.image_compare.specs.Comparing.{FirstCompared, ListsCompared, compareFirstCheck, compareListsCheck}
-use Rattle.run_lines.specs.Shown.{room, Shown, FirstShown, ListsShown}
+use Rattle.run_lines.specs.Shown.{room, numbers, Shown, FirstShown, ListsShown}
 
 pub same-parts : (r s : Compared) → r .count ≡ s .count → r .ending ≡ s .ending → r ≡ s
 same-parts r s c e = λ i. record { count = c i; ending = e i }
@@ -20,18 +24,28 @@ zeros = replicate room 0
 places : length zeros ≡ room
 places = length-replicate {A = ℕ} room 0
 
+abbrev header-zeros : List ℕ
+header-zeros = replicate numbers 0
+
+header-places : length header-zeros ≡ numbers
+header-places = length-replicate {A = ℕ} numbers 0
+
 module _ (first′ last′ olds′ news′ : List ℕ) (r s : Compared) (e : s ≡ r) where
-  shown : (check check′ : Reply) (rs : List Run) → check ≡ check′ → Outcome check rs zeros zeros zeros zeros first′ last′ olds′ news′ r
+  shown : (check check′ : Reply) (rs : List Run) → check ≡ check′ → Outcome check rs header-zeros header-zeros zeros zeros first′ last′ olds′ news′ r
       → Shown check′ rs s
   shown check check′ rs f p = rw e (record {
-    reply = p .reply ∙ ap₂ (λ (c : Reply) (k : ℕ). c then Gives (ending k rs)) f places;
+    reply = p .reply ∙ ap₂ (λ (c : Reply) (k : ℕ). c then Gives (halvesOf (ending k rs))) f places;
     count = p .count ∙ ap₂ (λ (c : Reply) (k : ℕ). length (unlessRefused c (portion k rs) [])) f places;
   })
 
-  pub first-shown : (old new : List ℕ) (start : ℕ) → FirstCompared old new start zeros zeros zeros zeros first′ last′ olds′ news′ r
+  pub first-shown : (old new : List ℕ) (start : ℕ) → FirstCompared old new start header-zeros header-zeros zeros zeros first′ last′ olds′ news′ r
       → FirstShown old new start s
-  first-shown old new start p = shown _ _ _ (ap (λ (n : ℕ). compareFirstCheck old new start n n n n) places) p
+  first-shown old new start p = shown _ _ _ (ap₂ (λ (m n : ℕ). compareFirstCheck old new start m m n n) header-places places) p
 
   pub lists-shown : (old : List ℕ) (i : ℕ) (new : List ℕ) (j : ℕ) (start : ℕ)
-      → ListsCompared old i new j start zeros zeros zeros zeros first′ last′ olds′ news′ r → ListsShown old i new j start s
-  lists-shown old i new j start p = shown _ _ _ (ap (λ (n : ℕ). compareListsCheck old i new j start n n n n) places) p
+      → ListsCompared old i new j start header-zeros header-zeros zeros zeros first′ last′ olds′ news′ r → ListsShown old i new j start s
+  lists-shown old i new j start p = shown _ _ _ (ap₂ (λ (m n : ℕ). compareListsCheck old i new j start m m n n) header-places places) p
+
+-- The comparison from the word that holds 0 is that from header 0.
+pub from-zero : (old new : List ℕ) (z : Word) (r : Compared) → z ≡ halves 0 → FirstShown old new (num z) r → FirstShown old new 0 r
+from-zero old new z r e p = subst (λ (n : ℕ). FirstShown old new n r) (holds e) p

@@ -1,8 +1,9 @@
 -- What a call that writes the lines of a comparison answers (01, the bench program: at most 1,000 runs, then the ending).
 use mathlib.Core.Path.{_≡_}
-use Prim.Native.Nat.{ℕ, _≤_}
+use Prim.Native.Nat.{ℕ, _*_, _≤_}
 use mathlib.Core.List.{List, []}
 use lib.ListN.{length, take}
+use Rattle.words.specs.Slices.{halvesOf}
 use Rattle.rules.specs.Replies.{Reply, Gives, _then_, unlessRefused}
 use Rattle.compare.specs.declared.Compared.{Compared}
 use Rattle.compare.specs.Runs.{Run, differences, portion, ending}
@@ -16,21 +17,25 @@ use Rattle.run_lines.specs.declared.Held.{Held}
 abbrev pub room : ℕ
 room = 1000
 
+-- So many numbers hold the headers: two to a header.
+abbrev pub numbers : ℕ
+numbers = room * 2
+
 -- The ending and the number of the lines of runs that were written, by the verdict of the checks and the runs that there are.
 pub record Shown (check : Reply) (rs : List Run) (r : Compared) : Type 0 where
-  pub reply : endingReply (r .ending) ≡ (check then Gives (ending room rs))
+  pub reply : endingReply (r .ending) ≡ (check then Gives (halvesOf (ending room rs)))
   pub count : r .count ≡ length (unlessRefused check (portion room rs) [])
 
 -- The first lists of two images, from a header on.
 abbrev pub FirstShown : (old new : List ℕ) → (start : ℕ) → Compared → Type 0
 FirstShown old new start r =
-    Shown (compareFirstCheck old new start room room room room)
+    Shown (compareFirstCheck old new start numbers numbers room room)
     (differences (widthIn old) (firstRules old) (firstRules new) start) r
 
 -- Two lists by their ids.
 abbrev pub ListsShown : (old : List ℕ) → (oldId : ℕ) → (new : List ℕ) → (newId : ℕ) → (start : ℕ) → Compared → Type 0
 ListsShown old i new j start r =
-    Shown (compareListsCheck old i new j start room room room room)
+    Shown (compareListsCheck old i new j start numbers numbers room room)
     (differences (widthIn old) (listWith old i) (listWith new j) start) r
 
 -- The first lists of two files, of which no contract can say what they hold: what was read stands at the starts of the two slices

@@ -4,8 +4,9 @@ ghost use Rattle.compare.specs.declared.Ending.{Ending};
 use compare::Ending;
 use image::Outcome;
 use rules::Wire;
+use words::Word;
 
-fn text(s: &[u8]) {
+fn say(s: &[u8]) {
     io::write_all(1, s);
 }
 
@@ -16,32 +17,46 @@ fn number(n: u64) {
 // An answer of a list: 65,535 stands for no match.
 fn answer(a: u16) {
     if a == 65535 {
-        text(b"none");
+        say(b"none");
         return;
     }
     number(a as u64);
 }
 
-fn run(first: u64, last: u64, old: u16, new: u16) {
-    number(first);
-    text(b" ");
-    number(last);
-    text(b" ");
-    answer(old);
-    text(b" ");
-    answer(new);
-    text(b"\n");
+// A header, of up to 39 digits.
+fn header(h: Word) {
+    let mut digits = [0u8; 39];
+    let n = text::write_number(h, &mut digits);
+    start_of(&digits, n);
 }
 
-// Run number i, counted from 0, where each slice has one.
+fn start_of(s: &[u8], n: usize) {
+    if n <= s.len() {
+        say(&s[..n]);
+    }
+}
+
+fn run(first: Word, last: Word, old: u16, new: u16) {
+    header(first);
+    say(b" ");
+    header(last);
+    say(b" ");
+    answer(old);
+    say(b" ");
+    answer(new);
+    say(b"\n");
+}
+
+// Run number i, counted from 0, where there are answers for it.
 fn run_at(first: &[u64], last: &[u64], old: &[u16], new: &[u16], i: usize) {
-    if i < first.len() {
-        if i < last.len() {
-            if i < old.len() {
-                if i < new.len() {
-                    run(first[i], last[i], old[i], new[i]);
-                }
-            }
+    if i < old.len() {
+        if i < new.len() {
+            run(
+                words::word_at(first, i),
+                words::word_at(last, i),
+                old[i],
+                new[i],
+            );
         }
     }
 }
@@ -61,27 +76,27 @@ pub(crate) fn runs(first: &[u64], last: &[u64], old: &[u16], new: &[u16], count:
 pub(crate) fn width(image: &[u8]) {
     let w = image::width(image);
     if let Outcome::Number(n) = w {
-        text(b"width ");
+        say(b"width ");
         number(n as u64);
-        text(b"\n");
+        say(b"\n");
     }
 }
 
 fn finished(count: usize) -> Ending
     ensures { λ r. ⌜ r ≡ Ending.Finished ⌝ }
 {
-    text(b"runs ");
+    say(b"runs ");
     number(count as u64);
-    text(b"\n");
+    say(b"\n");
     Ending::Finished
 }
 
 fn more(next: Wire) -> Ending
     ensures { λ r. ⌜ r ≡ Ending.More next ⌝ }
 {
-    text(b"more ");
-    number(next.0);
-    text(b"\n");
+    say(b"more ");
+    header(next.0);
+    say(b"\n");
     Ending::More(next)
 }
 

@@ -1,6 +1,7 @@
 // Comparing and writing the lines, with room for 1,000 runs.
 ghost use Rattle.io.specs.Counts.{Counts};
 ghost use mathlib.Core.Path.{_≡_};
+ghost use Rattle.words.specs.Halves.{num};
 ghost use Rattle.run_lines.specs.Shown.{FirstShown, ListsShown, FilesShown};
 use crate::Held;
 use crate::lines;
@@ -10,6 +11,9 @@ use rules::Wire;
 
 // Room for so many runs.
 const ROOM: usize = 1000;
+
+// A header is two numbers.
+const NUMBERS: usize = 2000;
 
 // The lines of a comparison; what they say.
 fn show(
@@ -34,10 +38,10 @@ fn show(
 
 // The lines of the comparison of the first lists of two images, from a header on.
 pub fn show_first(old: &[u8], new: &[u8], start: Wire) -> Compared
-    ensures { λ r. ⌜ FirstShown (now (old .entry)) (now (new .entry)) (start .0) r ⌝ }
+    ensures { λ r. ⌜ FirstShown (now (old .entry)) (now (new .entry)) (num (start .0)) r ⌝ }
 {
-    let mut first = [0u64; ROOM];
-    let mut last = [0u64; ROOM];
+    let mut first = [0u64; NUMBERS];
+    let mut last = [0u64; NUMBERS];
     let mut old_answer = [0u16; ROOM];
     let mut new_answer = [0u16; ROOM];
     let c = image_compare::compare_first(
@@ -54,10 +58,10 @@ pub fn show_first(old: &[u8], new: &[u8], start: Wire) -> Compared
 
 // The lines of the comparison of the old image's list `old_id` with the new image's list `new_id`, from a header on.
 pub fn show_lists(old: &[u8], old_id: u16, new: &[u8], new_id: u16, start: Wire) -> Compared
-    ensures { λ r. ⌜ ListsShown (now (old .entry)) «old_id» (now (new .entry)) «new_id» (start .0) r ⌝ }
+    ensures { λ r. ⌜ ListsShown (now (old .entry)) «old_id» (now (new .entry)) «new_id» (num (start .0)) r ⌝ }
 {
-    let mut first = [0u64; ROOM];
-    let mut last = [0u64; ROOM];
+    let mut first = [0u64; NUMBERS];
+    let mut last = [0u64; NUMBERS];
     let mut old_answer = [0u16; ROOM];
     let mut new_answer = [0u16; ROOM];
     let c = image_compare::compare_lists(
@@ -94,7 +98,7 @@ pub fn show_files(old_path: &[u8], new_path: &[u8], old: &mut [u8], new: &mut [u
 {
     let m = load(old_path, old);
     let n = load(new_path, new);
-    let compared = show_first(&old[..m], &new[..n], Wire(0));
+    let compared = show_first(&old[..m], &new[..n], Wire(words::wide(0)));
     Held {
         old: m,
         new: n,

@@ -7,3 +7,4 @@ pub mod SwapCallLaws
 pub mod SwapTheorems
 pub mod SwapCallTheorems
 pub mod SwapUnique
+pub mod SwapAnswers

@@ -3,12 +3,14 @@
 ghost use mathlib.Core.Path.{_≡_};
 ghost use mathlib.Core.Bool.{true};
 ghost use Prim.Native.Nat.{_≤_, _<_};
-ghost use Rattle.rules.specs.Words.{placeBit};
+ghost use Rattle.words.specs.Words.{placeBit};
+ghost use Rattle.words.specs.Halves.{num, halves};
+ghost use Rattle.rules.specs.Rule.{ruleOf};
+ghost use Rattle.rules.specs.Checks.{widest};
 ghost use Rattle.rules.specs.Replies.{verdictReply, lookedReply};
 ghost use Rattle.rules.specs.Calls.{lookedUp};
 ghost use Rattle.swaps.specs.Swaps.{moved, times, seat, entryGood, good, inverse, composed};
-ghost use Rattle.swaps.specs.SwapCalls.{movedRuleReply, toSwappedReply, toWireReply, swapOf, noSwap, SwapGiven, placesCheck, checkSwap, checkSwapRule, checkSwapHeader, checkSwaps, appliedRule, appliedHeader, undoneHeader, inverted, joined};
-use crate::checks::below;
+ghost use Rattle.swaps.specs.SwapCalls.{movedRuleAnswer, toSwappedAnswer, toWireAnswer, swapOf, noSwap, SwapGiven, placesCheck, checkSwap, checkSwapRule, checkSwapHeader, checkSwaps, appliedRule, appliedHeader, undoneHeader, inverted, joined};
 use crate::checks::is_width;
 use crate::checks::refused;
 use rules::Looked;
@@ -18,13 +20,14 @@ use rules::Verdict;
 use rules::Wire;
 use rules::check_rule;
 use rules::lookup_number;
+use words::Word;
 
-// A header in swapped order. Its number is private: outside this module one comes only from `apply`.
-pub struct Swapped(u64);
+// A header in swapped order. Its word is private: outside this module one comes only from `apply`.
+pub struct Swapped(Word);
 
 // An order of the places 1 to width: entry k names the old place that moves to new place k. Entries past the width are 0.
 pub struct Swap {
-    pub places: [u8; 64],
+    pub places: [u8; 128],
     pub width: u32,
 }
 
@@ -60,16 +63,16 @@ fn wide(x: u8) -> usize
 }
 
 // The bit of a word at a place.
-fn bit_at(width: u32, word: u64, place: u8) -> u64
-    requires { ⌜ (1 ≤ place) × (place ≤ width) × (width ≤ 64) ⌝ }
-    ensures { λ r. ⌜ r ≡ placeBit width word place ⌝ }
+fn bit_at(width: u32, word: Word, place: u8) -> u64
+    requires { ⌜ (1 ≤ place) × (place ≤ width) × (width ≤ widest) ⌝ }
+    ensures { λ r. ⌜ r ≡ placeBit width (num word) place ⌝ }
 {
-    (word >> (width - place as u32)) % 2
+    words::bit_at(word, width - place as u32)
 }
 
 // How many of the first `width` entries are `place`.
-fn times_of(places: &[u8; 64], width: usize, place: u8) -> usize
-    requires { ⌜ width ≤ 64 ⌝ }
+fn times_of(places: &[u8; 128], width: usize, place: u8) -> usize
+    requires { ⌜ width ≤ widest ⌝ }
     ensures { λ r. ⌜ r ≡ times width (now (places .entry)) place ⌝ }
 {
     let mut n: usize = 0;
@@ -84,8 +87,8 @@ fn times_of(places: &[u8; 64], width: usize, place: u8) -> usize
 }
 
 // The number, from 1, of the last of the first `width` entries that is `place`, or 0.
-fn seat_of(places: &[u8; 64], width: usize, place: u8) -> usize
-    requires { ⌜ width ≤ 64 ⌝ }
+fn seat_of(places: &[u8; 128], width: usize, place: u8) -> usize
+    requires { ⌜ width ≤ widest ⌝ }
     ensures { λ r. ⌜ r ≡ seat width (now (places .entry)) place ⌝ }
 {
     let mut n: usize = 0;
@@ -100,8 +103,8 @@ fn seat_of(places: &[u8; 64], width: usize, place: u8) -> usize
 }
 
 // Whether entry k + 1 is as a swap of this width has it.
-fn entry_good(places: &[u8; 64], width: usize, k: usize) -> bool
-    requires { ⌜ (width ≤ 64) × (k < 64) ⌝ }
+fn entry_good(places: &[u8; 128], width: usize, k: usize) -> bool
+    requires { ⌜ (width ≤ widest) × (k < widest) ⌝ }
     ensures { λ r. ⌜ r ≡ entryGood width (now (places .entry)) k ⌝ }
 {
     let place = places[k];
@@ -118,12 +121,12 @@ fn entry_good(places: &[u8; 64], width: usize, k: usize) -> bool
 }
 
 // Whether the first `width` entries are 1 to width once each, and the later ones 0.
-fn good_places(places: &[u8; 64], width: usize) -> bool
-    requires { ⌜ width ≤ 64 ⌝ }
-    ensures { λ r. ⌜ r ≡ good 64 width (now (places .entry)) ⌝ }
+fn good_places(places: &[u8; 128], width: usize) -> bool
+    requires { ⌜ width ≤ widest ⌝ }
+    ensures { λ r. ⌜ r ≡ good widest width (now (places .entry)) ⌝ }
 {
     let mut i: usize = 0;
-    while i < 64 {
+    while i < 128 {
         if !entry_good(places, width, i) {
             return false;
         }
@@ -133,26 +136,26 @@ fn good_places(places: &[u8; 64], width: usize) -> bool
 }
 
 // The word with its bits moved, built from the left.
-fn moved_word(places: &[u8; 64], width: u32, word: u64) -> u64
-    requires { ⌜ (width ≤ 64) × (good 64 width (now places) ≡ true) ⌝ }
-    ensures { λ r. ⌜ r ≡ moved width (now (places .entry)) word ⌝ }
+fn moved_word(places: &[u8; 128], width: u32, word: Word) -> Word
+    requires { ⌜ (width ≤ widest) × (good widest width (now places) ≡ true) ⌝ }
+    ensures { λ r. ⌜ r ≡ halves (moved width (now (places .entry)) (num word)) ⌝ }
 {
     let n = width as usize;
-    let mut acc: u64 = 0;
+    let mut acc = Word { low: 0, high: 0 };
     let mut i: usize = 0;
     while i < n {
-        acc = acc * 2 + bit_at(width, word, places[i]);
+        acc = words::pushed(acc, bit_at(width, word, places[i]));
         i += 1;
     }
     acc
 }
 
 // The places of the inverse.
-fn inverse_places(places: &[u8; 64], width: usize) -> [u8; 64]
-    requires { ⌜ width ≤ 64 ⌝ }
-    ensures { λ r. ⌜ r ≡ inverse 64 width (now (places .entry)) ⌝ }
+fn inverse_places(places: &[u8; 128], width: usize) -> [u8; 128]
+    requires { ⌜ width ≤ widest ⌝ }
+    ensures { λ r. ⌜ r ≡ inverse widest width (now (places .entry)) ⌝ }
 {
-    let mut out = [0u8; 64];
+    let mut out = [0u8; 128];
     let mut i: usize = 0;
     while i < width {
         out[i] = seat_of(places, width, (i + 1) as u8) as u8;
@@ -162,11 +165,11 @@ fn inverse_places(places: &[u8; 64], width: usize) -> [u8; 64]
 }
 
 // The places of the first swap, then the second.
-fn composed_places(first: &[u8; 64], second: &[u8; 64], width: usize) -> [u8; 64]
-    requires { ⌜ (width ≤ 64) × (good 64 width (now second) ≡ true) ⌝ }
-    ensures { λ r. ⌜ r ≡ composed 64 width (now (first .entry)) (now (second .entry)) ⌝ }
+fn composed_places(first: &[u8; 128], second: &[u8; 128], width: usize) -> [u8; 128]
+    requires { ⌜ (width ≤ widest) × (good widest width (now second) ≡ true) ⌝ }
+    ensures { λ r. ⌜ r ≡ composed widest width (now (first .entry)) (now (second .entry)) ⌝ }
 {
-    let mut out = [0u8; 64];
+    let mut out = [0u8; 128];
     let mut i: usize = 0;
     while i < width {
         let place = second[i] as usize;
@@ -177,9 +180,9 @@ fn composed_places(first: &[u8; 64], second: &[u8; 64], width: usize) -> [u8; 64
 }
 
 // Refusal 9 of a swap whose width is one.
-fn places_verdict(places: &[u8; 64], width: u32) -> Verdict
-    requires { ⌜ width ≤ 64 ⌝ }
-    ensures { λ r. ⌜ verdictReply r ≡ placesCheck 64 (swapOf (now (places .entry)) width) ⌝ }
+fn places_verdict(places: &[u8; 128], width: u32) -> Verdict
+    requires { ⌜ width ≤ widest ⌝ }
+    ensures { λ r. ⌜ verdictReply r ≡ placesCheck widest (swapOf (now (places .entry)) width) ⌝ }
 {
     if good_places(places, width as usize) {
         return Verdict::Fine;
@@ -188,8 +191,8 @@ fn places_verdict(places: &[u8; 64], width: u32) -> Verdict
 }
 
 // A swap alone: 1, then 9.
-fn swap_verdict(places: &[u8; 64], width: u32) -> Verdict
-    ensures { λ r. ⌜ verdictReply r ≡ checkSwap 64 (swapOf (now (places .entry)) width) ⌝ }
+fn swap_verdict(places: &[u8; 128], width: u32) -> Verdict
+    ensures { λ r. ⌜ verdictReply r ≡ checkSwap widest (swapOf (now (places .entry)) width) ⌝ }
 {
     if is_width(width) {
         return places_verdict(places, width);
@@ -198,8 +201,8 @@ fn swap_verdict(places: &[u8; 64], width: u32) -> Verdict
 }
 
 // A swap and a rule: 1, then 4 and 5 of the rule, then 9.
-fn swap_rule_verdict(places: &[u8; 64], width: u32, rule: Rule) -> Verdict
-    ensures { λ r. ⌜ verdictReply r ≡ checkSwapRule 64 (swapOf (now (places .entry)) width) rule ⌝ }
+fn swap_rule_verdict(places: &[u8; 128], width: u32, rule: Rule) -> Verdict
+    ensures { λ r. ⌜ verdictReply r ≡ checkSwapRule widest (swapOf (now (places .entry)) width) (ruleOf rule) ⌝ }
 {
     let v = check_rule(width, 1, 1, rule);
     let Verdict::Fine = v else {
@@ -209,11 +212,11 @@ fn swap_rule_verdict(places: &[u8; 64], width: u32, rule: Rule) -> Verdict
 }
 
 // A swap and a header: 1, then 6, then 9.
-fn swap_header_verdict(places: &[u8; 64], width: u32, header: u64) -> Verdict
-    ensures { λ r. ⌜ verdictReply r ≡ checkSwapHeader 64 (swapOf (now (places .entry)) width) header ⌝ }
+fn swap_header_verdict(places: &[u8; 128], width: u32, header: Word) -> Verdict
+    ensures { λ r. ⌜ verdictReply r ≡ checkSwapHeader widest (swapOf (now (places .entry)) width) (num header) ⌝ }
 {
     if is_width(width) {
-        if below(header, width) {
+        if words::below(header, width) {
             return places_verdict(places, width);
         }
         return refused(6, 0, 0);
@@ -222,9 +225,9 @@ fn swap_header_verdict(places: &[u8; 64], width: u32, header: u64) -> Verdict
 }
 
 // Two swaps: the first's 1 and 9, then the second's, then 9 where the widths differ.
-fn swaps_verdict(first: &[u8; 64], width: u32, second: &[u8; 64], other: u32) -> Verdict
+fn swaps_verdict(first: &[u8; 128], width: u32, second: &[u8; 128], other: u32) -> Verdict
     ensures { λ r. ⌜ verdictReply r
-        ≡ checkSwaps 64 (swapOf (now (first .entry)) width) (swapOf (now (second .entry)) other) ⌝ }
+        ≡ checkSwaps widest (swapOf (now (first .entry)) width) (swapOf (now (second .entry)) other) ⌝ }
 {
     let v = swap_verdict(first, width);
     let Verdict::Fine = v else {
@@ -242,12 +245,12 @@ fn swaps_verdict(first: &[u8; 64], width: u32, second: &[u8; 64], other: u32) ->
 
 // A refusal with the swap of zeros beside it.
 fn refused_swap(refusal: Refusal) -> SwapAnswer
-    ensures { λ r. ⌜ (r .verdict ≡ Verdict.Refused refusal) × (r .swap ≡ noSwap 64) ⌝ }
+    ensures { λ r. ⌜ (r .verdict ≡ Verdict.Refused refusal) × (r .swap ≡ noSwap widest) ⌝ }
 {
     SwapAnswer {
         verdict: Verdict::Refused(refusal),
         swap: Swap {
-            places: [0u8; 64],
+            places: [0u8; 128],
             width: 0,
         },
     }
@@ -256,7 +259,7 @@ fn refused_swap(refusal: Refusal) -> SwapAnswer
 impl Swap {
     // Moves a rule.
     pub fn apply_rule(self, rule: Rule) -> MovedRule
-        ensures { λ r. ⌜ movedRuleReply r ≡ appliedRule 64 self rule ⌝ }
+        ensures { λ r. ⌜ r ≡ movedRuleAnswer (appliedRule widest self (ruleOf rule)) ⌝ }
     {
         let places = self.places;
         let width = self.width;
@@ -275,7 +278,7 @@ impl Swap {
 
     // Moves a header from wire order into swapped order.
     pub fn apply(self, header: Wire) -> ToSwapped
-        ensures { λ r. ⌜ toSwappedReply r ≡ appliedHeader 64 self (header .0) ⌝ }
+        ensures { λ r. ⌜ r ≡ toSwappedAnswer (appliedHeader widest self (num (header .0))) ⌝ }
     {
         let places = self.places;
         let width = self.width;
@@ -289,7 +292,7 @@ impl Swap {
 
     // Moves a header from swapped order back into wire order, through the inverse.
     pub fn undo(self, header: Swapped) -> ToWire
-        ensures { λ r. ⌜ toWireReply r ≡ undoneHeader 64 self (header .0) ⌝ }
+        ensures { λ r. ⌜ r ≡ toWireAnswer (undoneHeader widest self (num (header .0))) ⌝ }
     {
         let places = self.places;
         let width = self.width;
@@ -304,7 +307,7 @@ impl Swap {
 
     // The swap that undoes this one.
     pub fn invert(self) -> SwapAnswer
-        ensures { λ r. ⌜ SwapGiven 64 (checkSwap 64 self) (inverted 64 self) r ⌝ }
+        ensures { λ r. ⌜ SwapGiven widest (checkSwap widest self) (inverted widest self) r ⌝ }
     {
         let places = self.places;
         let width = self.width;
@@ -324,7 +327,7 @@ impl Swap {
 
     // This swap first, then the other.
     pub fn compose(self, then: Swap) -> SwapAnswer
-        ensures { λ r. ⌜ SwapGiven 64 (checkSwaps 64 self «then») (joined 64 self «then») r ⌝ }
+        ensures { λ r. ⌜ SwapGiven widest (checkSwaps widest self «then») (joined widest self «then») r ⌝ }
     {
         let first = self.places;
         let width = self.width;
@@ -354,7 +357,7 @@ pub fn lookup_swapped(
     header: Swapped,
 ) -> Looked
     ensures { λ r. ⌜ lookedReply r
-        ≡ lookedUp width (now (care .entry)) (now (value .entry)) (now (decision .entry)) (header .0) ⌝ }
+        ≡ lookedUp width (now (care .entry)) (now (value .entry)) (now (decision .entry)) (num (header .0)) ⌝ }
 {
     lookup_number(width, care, value, decision, header.0)
 }

@@ -2,9 +2,11 @@
 use Prim.Native.Nat.{ℕ}
 use mathlib.Core.Path.{_≡_, refl}
 use mathlib.Core.List.{List, [], _∷_}
-use Rattle.rules.specs.declared.Rule.{Rule}
+use Rattle.words.specs.Halves.{num}
+use Rattle.words.specs.Slices.{wordsOf}
+use Rattle.rules.specs.Rule.{Rule}
 use Rattle.rules.specs.Rules.{rule, matches, first, answer, noMatch, covers, crosses, stars, mergeable, merged}
-use Rattle.rules.specs.Slices.{rulesOf}
+use Rattle.rules.specs.Slices.{zipped}
 use Rattle.rules.specs.Replies.{Gives, Refuses}
 use Rattle.rules.specs.Checks.{widthCheck, lengthsCheck, sizeCheck, patternFits, ruleCheck, rulesCheck, listCheck, headerCheck}
 use Rattle.rules.specs.Calls.{checkList, lookedUp}
@@ -34,8 +36,8 @@ unfolding cut crosses
 crossing-runs = refl
 
 -- `0*`→1, `*0`→2: no prefix bit-swap, refused 8 with the pair (1, 2).
-pub crossing-swap : checkPrefix 2 (2 ∷ 1 ∷ []) (0 ∷ 0 ∷ []) (1 ∷ 2 ∷ []) ≡ Refuses 8 1 2
-unfolding checkPrefix crossCheck crossesAmong crossesWith crosses checkList widthCheck listCheck lengthsCheck sizeCheck rulesCheck ruleCheck patternFits rulesOf
+pub crossing-swap : checkPrefix 2 (2 ∷ 0 ∷ 1 ∷ 0 ∷ []) (0 ∷ 0 ∷ 0 ∷ 0 ∷ []) (1 ∷ 2 ∷ []) ≡ Refuses 8 1 2
+unfolding checkPrefix crossCheck crossesAmong crossesWith crosses checkList widthCheck listCheck lengthsCheck sizeCheck rulesCheck ruleCheck patternFits zipped wordsOf num
 crossing-swap = refl
 
 pub crossing-rules : Weaves 2 (rule 2 0 1 ∷ rule 1 0 2 ∷ []) (rule 2 0 1 ∷ rule 1 0 2 ∷ []) 2 0 0
@@ -80,7 +82,7 @@ empty-answers h = refl
 
 -- and so says the call, here for the last header of width 3
 pub empty-lookup : lookedUp 3 [] [] [] 7 ≡ Gives []
-unfolding lookedUp checkList widthCheck listCheck lengthsCheck sizeCheck rulesCheck rulesOf headerCheck first
+unfolding lookedUp checkList widthCheck listCheck lengthsCheck sizeCheck rulesCheck zipped wordsOf headerCheck first
 empty-lookup = refl
 
 -- Not merged: `0*` and `11` differ at one place where both care, but their care words are not equal.
@@ -89,11 +91,36 @@ unfolding weave dropped merges crosses covers stars mergeable merged
 unequal-care = record { list = refl; entries = refl; covered = refl; pairs = refl }
 
 -- Width 64: the pair differs in place 1 alone.
-pub full-width : Weaves 64
+pub half-width : Weaves 64
     (rule 0xffff_ffff_ffff_ffff 0 7 ∷ rule 0xffff_ffff_ffff_ffff 0x8000_0000_0000_0000 7 ∷ rule 1 0 9 ∷ [])
     (rule 0x7fff_ffff_ffff_ffff 0 7 ∷ rule 1 0 9 ∷ []) 2 0 1
 unfolding weave dropped merges crosses covers stars mergeable merged
+half-width = record { list = refl; entries = refl; covered = refl; pairs = refl }
+
+-- Width 128: the same.
+pub full-width : Weaves 128
+    (rule 0xffff_ffff_ffff_ffff_ffff_ffff_ffff_ffff 0 7 ∷ rule 0xffff_ffff_ffff_ffff_ffff_ffff_ffff_ffff 0x8000_0000_0000_0000_0000_0000_0000_0000 7 ∷ rule 1 0 9 ∷ [])
+    (rule 0x7fff_ffff_ffff_ffff_ffff_ffff_ffff_ffff 0 7 ∷ rule 1 0 9 ∷ []) 2 0 1
+unfolding weave dropped merges crosses covers stars mergeable merged
 full-width = record { list = refl; entries = refl; covered = refl; pairs = refl }
+
+-- Width 65: a list is taken, and the header 2^64 is one of its headers; the header 2^65 is refused 6.
+pub past-the-half : lookedUp 65 (0 ∷ 1 ∷ []) (0 ∷ 1 ∷ []) (7 ∷ []) 0x1_0000_0000_0000_0000 ≡ Gives (7 ∷ [])
+unfolding lookedUp checkList widthCheck listCheck lengthsCheck sizeCheck rulesCheck ruleCheck patternFits zipped wordsOf num headerCheck first matches
+past-the-half = refl
+
+pub past-the-width : lookedUp 65 (0 ∷ 1 ∷ []) (0 ∷ 1 ∷ []) (7 ∷ []) 0x2_0000_0000_0000_0000 ≡ Refuses 6 0 0
+unfolding lookedUp checkList widthCheck listCheck lengthsCheck sizeCheck rulesCheck ruleCheck patternFits zipped wordsOf num headerCheck
+past-the-width = refl
+
+-- Width 129: refused 1. A care slice without a partner for its last number: refused 2.
+pub too-wide : checkList 129 1 [] [] [] ≡ Refuses 1 0 0
+unfolding checkList widthCheck
+too-wide = refl
+
+pub odd-slices : checkList 3 1 (4 ∷ 0 ∷ 1 ∷ []) (4 ∷ 0 ∷ 1 ∷ []) (7 ∷ []) ≡ Refuses 2 0 0
+unfolding checkList widthCheck listCheck lengthsCheck
+odd-slices = refl
 
 -- ---- the comparison
 
@@ -129,8 +156,8 @@ unfolding runsTo runsOf first matches
 start-three = refl
 
 -- Start 8: refusal 6.
-pub start-eight : compareCheck 3 (4 ∷ []) (0 ∷ []) (1 ∷ []) (6 ∷ 5 ∷ []) (0 ∷ 5 ∷ []) (1 ∷ 1 ∷ []) 8 1 1 1 1 ≡ Refuses 6 0 0
-unfolding compareCheck portionCheck resultsCheck headerCheck widthCheck listCheck lengthsCheck sizeCheck rulesCheck ruleCheck patternFits rulesOf
+pub start-eight : compareCheck 3 (4 ∷ 0 ∷ []) (0 ∷ 0 ∷ []) (1 ∷ []) (6 ∷ 0 ∷ 5 ∷ 0 ∷ []) (0 ∷ 0 ∷ 5 ∷ 0 ∷ []) (1 ∷ 1 ∷ []) 8 2 2 1 1 ≡ Refuses 6 0 0
+unfolding compareCheck portionCheck resultsCheck headerCheck widthCheck listCheck lengthsCheck sizeCheck rulesCheck ruleCheck patternFits zipped wordsOf num
 start-eight = refl
 
 -- Width 2, old `00`→1, `01`→1, new empty: one run, 0 to 1.

@@ -1,4 +1,7 @@
 -- The laws of numbers and patterns as text.
+pub mod PutLaws
 pub mod NumberLaws
+pub mod DecimalLaws
+pub mod RoundTrip
 pub mod PatternLaws
 pub mod Unique

@@ -1,23 +1,24 @@
 -- Laws of patterns as text: each place has its glyph.
 use mathlib.Core.Path.{_≡_, refl, sym, ap, _∙_}
-use mathlib.Core.List.{List, [], _∷_, _++_, append-assoc}
-use mathlib.Core.Bool.{Bool, true}
-use Prim.Native.Nat.{ℕ, zero, suc, _+_, _-_, _≤_, _<_}
+use mathlib.Core.List.{List, [], _∷_, _++_}
+use mathlib.Core.Bool.{Bool}
+use Prim.Native.Nat.{ℕ, zero, suc, _+_, _≤_, _<_}
 use native.Mathlib.Omega.{arith}
 use native.Mathlib.Numerals.{add-one}
-use lib.Dec.{eqb, leb}
+use lib.Dec.{eqb}
 use lib.ListN.{length, getD, drop, set, length-append, List·getD-append}
-use lib.Seq.{drop-cons, set-at, getD-append-seam}
-use Rattle.rules.specs.declared.Rule.{Rule}
-use Rattle.rules.specs.Rules.{choose}
-use Rattle.rules.specs.Words.{placeBit}
-use Rattle.rules.specs.Replies.{Reply, Refuses, passed, _then_, unlessRefused}
-use Rattle.rules.specs.Checks.{widthCheck, roomCheck}
-use Rattle.rules.proofs.ReplyLaws.{then-next, then-refuses}
-use Rattle.rules.proofs.CheckLaws.{width-yes, width-no, room-yes, room-no}
-use Rattle.rules.proofs.Tests.{split, eqb-yes, no-eqb, and-on, and-off, true-and}
+use lib.Seq.{getD-append-seam}
 use borrow.Author.Tests.{lt-leb, le-leb, eq-eqb, ne-eqb}
-use Rattle.text.specs.Patterns.{glyphAt, placesText, patternText, taken, Printed}
+use Rattle.words.specs.Words.{placeBit}
+use Rattle.words.proofs.Tests.{split, eqb-yes, no-eqb, and-on, true-and}
+use Rattle.rules.specs.Rule.{Rule}
+use Rattle.rules.specs.Rules.{choose}
+use Rattle.rules.specs.Replies.{Reply, unlessRefused}
+use Rattle.rules.specs.Checks.{widest, widthCheck}
+use Rattle.rules.proofs.CheckLaws.{width-yes, width-no}
+use Rattle.text.specs.Patterns.{glyphAt, placesText, patternText}
+use Rattle.text.specs.Put.{Put}
+use Rattle.text.proofs.PutLaws.{put-next, put-all, put-empty, put-short}
 
 pub text-length : (w : ℕ) (r : Rule) (k : ℕ) → length (placesText w r k) ≡ k
 unfolding placesText
@@ -25,15 +26,13 @@ text-length w r zero = refl
 text-length w r (suc k) = omega (arith, length-append (placesText w r k) (glyphAt w r (suc k) ∷ []), text-length w r k)
 
 -- the text of one place more
-pub text-more : (w : ℕ) (r : Rule) (k g : ℕ) (old : List ℕ) → k < length old → g ≡ glyphAt w r (k + 1)
-    → set (placesText w r k ++ drop k old) k g ≡ placesText w r (k + 1) ++ drop (k + 1) old
+pub text-more : (w : ℕ) (r : Rule) (k g : ℕ) (old now : List ℕ) → k < length old → g ≡ glyphAt w r (k + 1) → now ≡ placesText w r k ++ drop k old
+    → set now k g ≡ placesText w r (k + 1) ++ drop (k + 1) old
 unfolding placesText
-text-more w r k g old h e =
-    ap (λ (l : List ℕ). set (placesText w r k ++ l) k g) (drop-cons old k 0 h)
-    ∙ set-at (placesText w r k) (getD old k 0) (drop (suc k) old) g k (text-length w r k)
-    ∙ ap (λ (x : ℕ). placesText w r k ++ x ∷ drop (suc k) old) (e ∙ ap (glyphAt w r) (add-one k))
-    ∙ sym (append-assoc (placesText w r k) (glyphAt w r (suc k) ∷ []) (drop (suc k) old))
-    ∙ ap (λ (n : ℕ). placesText w r n ++ drop n old) (sym (add-one k))
+text-more w r k g old now h e f =
+    put-next (placesText w r k) k g old now (text-length w r k) h f
+    ∙ ap (λ (x : ℕ). (placesText w r k ++ (x ∷ [])) ++ drop (k + 1) old) (e ∙ ap (glyphAt w r) (add-one k))
+    ∙ ap (λ (n : ℕ). placesText w r n ++ drop (k + 1) old) (sym (add-one k))
 
 pub text-none : (w : ℕ) (r : Rule) (old : List ℕ) → old ≡ placesText w r 0 ++ drop 0 old
 unfolding placesText
@@ -55,44 +54,33 @@ text-place w r (suc k) p h =
     List·getD-append (placesText w r k) (glyphAt w r (suc k) ∷ []) 0 p (omega (arith, text-length w r k))
     ∙ text-place w r k p (omega arith))
 
--- ---- what the call promises
+-- ---- the whole pattern
 
-no-room : (w : ℕ) (r : Rule) (old : List ℕ) → taken (length old) w ≡ 0 → Printed w r old 0 old
-unfolding placesText
-no-room w r old e = record { size = sym e; text = sym (ap (λ (n : ℕ). patternText n r ++ drop n old) e) }
+over-text : (w : ℕ) (r : Rule) → widest < w → patternText w r ≡ []
+unfolding patternText
+over-text w r h =
+    ap (λ (k : Reply). unlessRefused k (placesText w r w) []) (width-no w (sym (sym (lt-leb w widest h) ∙ and-on (le-leb 1 w (omega arith)))))
 
--- what is taken, by the two checks
-taken-by : (room w : ℕ) (reply : Reply) → (widthCheck w then roomCheck w room) ≡ reply → taken room w ≡ unlessRefused reply w 0
-unfolding taken
-taken-by room w reply e = ap (λ (k : Reply). unlessRefused k w 0) e
+-- a width of 0 is refused, and has no places
+whole-text : (w : ℕ) (r : Rule) → w ≤ widest → patternText w r ≡ placesText w r w
+unfolding patternText placesText widthCheck
+whole-text zero r h = refl
+whole-text (suc w) r h =
+    ap (λ (k : Reply). unlessRefused k (placesText (suc w) r (suc w)) [])
+    (width-yes (suc w) (true-and (le-leb 1 (suc w) (omega arith)) (le-leb (suc w) widest h)))
 
-wide-enough : (w : ℕ) → 1 ≤ w → w ≤ 64 → widthCheck w ≡ passed
-wide-enough w l g = width-yes w (true-and (le-leb 1 w l) (le-leb w 64 g))
+module _ (w : ℕ) (r : Rule) (old : List ℕ) where
+  pub over-wide : widest < w → Put (patternText w r) old 0 old
+  over-wide h = put-empty (patternText w r) old (over-text w r h)
 
-pub over-wide : (w : ℕ) (r : Rule) (old : List ℕ) → 64 < w → Printed w r old 0 old
-over-wide w r old h =
-    let e : widthCheck w ≡ Refuses 1 0 0 = width-no w (sym (sym (lt-leb w 64 h) ∙ and-on (le-leb 1 w (omega arith)))) in
-    no-room w r old (taken-by (length old) w (Refuses 1 0 0) (then-refuses _ _ e))
+  pub too-short : w ≤ widest → length old < w → Put (patternText w r) old 0 old
+  too-short g h = put-short (patternText w r) old (omega (arith, ap length (whole-text w r g), text-length w r w))
 
-pub too-short : (w : ℕ) (r : Rule) (old : List ℕ) → w ≤ 64 → length old < w → Printed w r old 0 old
-too-short w r old g h =
-    no-room w r old (taken-by (length old) w (Refuses 7 0 0) (then-next _ _ (wide-enough w (omega arith) g) ∙ room-no w (length old) h))
-
--- a width of 0 takes nothing: refused or not, 0 bytes
-taken-all : (room w : ℕ) → w ≤ 64 → w ≤ room → taken room w ≡ w
-unfolding taken widthCheck
-taken-all room zero g h = refl
-taken-all room (suc w) g h = taken-by room (suc w) passed (then-next _ _ (wide-enough (suc w) (omega arith) g) ∙ room-yes (suc w) room h)
-
-pub all-places : (w k : ℕ) (r : Rule) (old new : List ℕ) → w ≤ 64 → w ≤ length old → k ≤ w → w ≤ k → new ≡ placesText w r k ++ drop k old
-    → Printed w r old w new
-all-places w k r old new g h p q e =
-    let s : taken (length old) w ≡ w = taken-all (length old) w g h in
-    let l : k ≡ w = omega arith in
-    record {
-      size = sym s;
-      text = e ∙ ap (λ (n : ℕ). placesText w r n ++ drop n old) l ∙ sym (ap (λ (n : ℕ). patternText n r ++ drop n old) s);
-    }
+  pub all-places : (k : ℕ) (new : List ℕ) → w ≤ widest → w ≤ length old → k ≡ w → new ≡ placesText w r k ++ drop k old
+      → Put (patternText w r) old w new
+  all-places k new g h l e =
+      put-all (patternText w r) old w new (omega (arith, ap length (whole-text w r g), text-length w r w)) h
+      (e ∙ ap (λ (n : ℕ). placesText w r n ++ drop n old) l ∙ ap (λ (t : List ℕ). t ++ drop w old) (sym (whole-text w r g)))
 
 -- ---- the glyph of a place
 

@@ -1,2 +1,4 @@
+pub mod Put
 pub mod Numbers
+pub mod Decimal
 pub mod Patterns

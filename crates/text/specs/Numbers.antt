@@ -4,6 +4,7 @@ use mathlib.Core.List.{List, [], _∷_}
 use mathlib.Core.Bool.{Bool, true, false, _&&_}
 use lib.Dec.{eqb, ltb}
 use lib.ListN.{length, getD, drop}
+use Rattle.words.specs.Halves.{halves}
 use Rattle.rules.specs.Rules.{choose}
 use Rattle.text.specs.declared.Number.{Number}
 
@@ -21,7 +22,7 @@ numberIf false a b = b
 -- The number that digits of a base go on with after `n`: none where a byte is no digit of the base, or where the number
 -- is not below the limit.
 unfoldable pub goesOn : (limit base n : ℕ) → List ℕ → Number
-goesOn limit base n [] = Number.Value n
+goesOn limit base n [] = Number.Value (halves n)
 goesOn limit base n (b ∷ bs) =
     numberIf (ltb (digitOf b) base && ltb (n * base + digitOf b) limit) (goesOn limit base (n * base + digitOf b) bs) Number.Nothing
 

@@ -1,12 +1,15 @@
-// Text for people: numbers read from words, and patterns written in 0, 1 and *.
+// Text for people: numbers read from words and written in decimal, and patterns written in 0, 1 and *.
+mod decimal;
 mod numbers;
 mod patterns;
 
+pub use decimal::write_number;
 pub use numbers::read_number;
 pub use patterns::write_pattern;
+use words::Word;
 
-// What a word stands for.
+// What a word of text stands for.
 pub enum Number {
-    Value(u64),
+    Value(Word),
     Nothing,
 }

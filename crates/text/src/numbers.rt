@@ -1,16 +1,17 @@
-// Numbers read from words.
+// Numbers read from words of text.
 ghost use mathlib.Core.Path.{_≡_};
-ghost use mathlib.Core.Bool.{Bool};
-ghost use Prim.Native.Nat.{_^_, _≤_, _<_};
-ghost use lib.ListN.{length, drop};
+ghost use lib.ListN.{drop};
+ghost use Rattle.words.specs.Halves.{limit};
 ghost use Rattle.text.specs.Numbers.{digitOf, goesOn, marked as markedOf, numberOf};
 use crate::Number;
+use words::Growth;
+use words::Word;
 
 // The value of a byte as a digit, 16 where it is none.
-fn digit(b: u8) -> u64
-    ensures { λ r. ⌜ (r ≡ digitOf b) × (r ≤ 16) ⌝ }
+fn digit(b: u8) -> u32
+    ensures { λ r. ⌜ r ≡ digitOf b ⌝ }
 {
-    let x = b as u64;
+    let x = b as u32;
     if x < 48 {
         return 16;
     }
@@ -33,21 +34,21 @@ fn digit(b: u8) -> u64
 }
 
 // The number that the digits from `from` on stand for.
-fn digits_from(word: &[u8], from: usize, base: u64) -> Number
-    requires { ⌜ (from ≤ length (now word)) × (2 ≤ base) × (base ≤ 16) ⌝ }
-    ensures { λ r. ⌜ r ≡ goesOn (2 ^ 64) base 0 (drop from (now (word .entry))) ⌝ }
+fn digits_from(word: &[u8], from: usize, base: u32) -> Number
+    ensures { λ r. ⌜ r ≡ goesOn limit base 0 (drop from (now (word .entry))) ⌝ }
 {
-    let mut n: u64 = 0;
+    let mut n = Word { low: 0, high: 0 };
     let mut i = from;
     while i < word.len() {
         let d = digit(word[i]);
         if base <= d {
             return Number::Nothing;
         }
-        if (18446744073709551615 - d) / base < n {
+        let g = words::grown(n, base, d);
+        let Growth::Value(more) = g else {
             return Number::Nothing;
-        }
-        n = n * base + d;
+        };
+        n = more;
         i += 1;
     }
     Number::Value(n)
@@ -64,9 +65,9 @@ fn marked(word: &[u8]) -> bool
 }
 
 // The number that a word stands for: decimal, or hexadecimal after 0x. A word with another byte in it, an empty word and
-// a number of 2^64 or more are none.
+// a number of 2^128 or more are none.
 pub fn read_number(word: &[u8]) -> Number
-    ensures { λ r. ⌜ r ≡ numberOf (2 ^ 64) (now (word .entry)) ⌝ }
+    ensures { λ r. ⌜ r ≡ numberOf limit (now (word .entry)) ⌝ }
 {
     if marked(word) {
         return digits_from(word, 2, 16);

@@ -1,27 +1,29 @@
 // Patterns written in 0, 1 and *.
 ghost use mathlib.Core.Path.{_≡_};
 ghost use Prim.Native.Nat.{_≤_};
-ghost use Rattle.text.specs.Patterns.{glyphAt, Printed};
+ghost use Rattle.rules.specs.Rule.{ruleOf};
+ghost use Rattle.text.specs.Patterns.{glyphAt, patternText};
+ghost use Rattle.text.specs.Put.{Put};
 use rules::Rule;
 
 // What stands for a place.
 fn glyph(width: u32, rule: Rule, place: u32) -> u8
-    requires { ⌜ (1 ≤ place) × (place ≤ width) × (width ≤ 64) ⌝ }
-    ensures { λ r. ⌜ r ≡ glyphAt width rule place ⌝ }
+    requires { ⌜ place ≤ width ⌝ }
+    ensures { λ r. ⌜ r ≡ glyphAt width (ruleOf rule) place ⌝ }
 {
-    let shift = width - place;
-    if (rule.care >> shift) % 2 == 0 {
+    let weight = width - place;
+    if words::bit_at(rule.care, weight) == 0 {
         return 42;
     }
-    (48 + (rule.value >> shift) % 2) as u8
+    (48 + words::bit_at(rule.value, weight)) as u8
 }
 
 // Puts the pattern of a rule at the start of `out`, place 1 first, and answers how many bytes it takes: the width, or 0
-// where the width is over 64 or `out` is too short, and then nothing changes.
+// where the width is over 128 or `out` is too short, and then nothing changes.
 pub fn write_pattern(width: u32, rule: Rule, out: &mut [u8]) -> usize
-    ensures { λ r. ⌜ Printed width rule (now (out .entry)) r (now (out .exit)) ⌝ }
+    ensures { λ r. ⌜ Put (patternText width (ruleOf rule)) (now (out .entry)) r (now (out .exit)) ⌝ }
 {
-    if 64 < width {
+    if 128 < width {
         return 0;
     }
     if out.len() < width as usize {

@@ -11,17 +11,18 @@ use rules::Refusal;
 use rules::Verdict;
 use rules::Wire;
 use text::Number;
+use words::Word;
 
 // compare OLD NEW
 pub(crate) fn compare_files(at: usize) {
-    on_images(at, false, 0, 0);
+    on_images(at, false, words::wide(0), words::wide(0));
 }
 
 // compare OLD NEW ID
 pub(crate) fn compare_id(at: usize) {
     let i = numbers::number_at(at, 4);
     if let Number::Value(id) = i {
-        on_images(at, true, id, 0);
+        on_images(at, true, id, words::wide(0));
     }
 }
 
@@ -39,7 +40,7 @@ pub(crate) fn compare_from(at: usize) {
 }
 
 // The lists with that id, or the first lists where none is named.
-fn on_images(at: usize, named: bool, id: u64, start: u64) {
+fn on_images(at: usize, named: bool, id: Word, start: Word) {
     let mut old_space = files::space();
     let mut new_space = files::space();
     let old: &mut [u8] = &mut old_space;
@@ -61,7 +62,7 @@ fn on_images(at: usize, named: bool, id: u64, start: u64) {
     );
 }
 
-fn compare_images(old: &[u8], new: &[u8], named: bool, id: u64, start: u64) {
+fn compare_images(old: &[u8], new: &[u8], named: bool, id: Word, start: Word) {
     let c = compared(old, new, named, id, start);
     let ending = c.ending;
     if let Ending::Refused(x) = ending {
@@ -70,7 +71,7 @@ fn compare_images(old: &[u8], new: &[u8], named: bool, id: u64, start: u64) {
 }
 
 // A refusal of a comparison: where a list is not there, which and in which image.
-fn refusal_by_id(x: Refusal, old: &[u8], id: u64) {
+fn refusal_by_id(x: Refusal, old: &[u8], id: Word) {
     if x.number != 15 {
         lines::refusal(x);
         return;
@@ -83,12 +84,13 @@ fn refusal_by_id(x: Refusal, old: &[u8], id: u64) {
 }
 
 // Writes the lines. An id above 65,535 is that of no list.
-fn compared(old: &[u8], new: &[u8], named: bool, id: u64, start: u64) -> Compared {
+fn compared(old: &[u8], new: &[u8], named: bool, id: Word, start: Word) -> Compared {
     if !named {
         return run_lines::show_first(old, new, Wire(start));
     }
-    if id <= 65535 {
-        let i = id as u16;
+    let number = words::capped(id);
+    if number <= 65535 {
+        let i = number as u16;
         return run_lines::show_lists(old, i, new, i, Wire(start));
     }
     Compared {

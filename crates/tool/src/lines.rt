@@ -1,5 +1,7 @@
 // The lines that the tool writes.
+use crate::slices;
 use rules::Refusal;
+use words::Word;
 
 pub(crate) fn say(s: &[u8]) {
     io::write_all(1, s);
@@ -7,6 +9,14 @@ pub(crate) fn say(s: &[u8]) {
 
 pub(crate) fn number(n: u64) {
     io::print_decimal(1, n);
+}
+
+// A number of up to 39 digits.
+fn word(n: Word) {
+    let mut space = [0u8; 39];
+    let digits: &mut [u8] = &mut space;
+    let count = text::write_number(n, digits);
+    say(slices::bytes(digits, count));
 }
 
 // A refusal, with its place where it has one: a list, and a rule or 0.
@@ -23,15 +33,15 @@ pub(crate) fn refusal(x: Refusal) {
 }
 
 // Refusal 15: no list has the id that was asked for, and of two images in which.
-pub(crate) fn no_list(id: u64, place: &[u8]) {
+pub(crate) fn no_list(id: Word, place: &[u8]) {
     say(b"refused 15: no list ");
-    number(id);
+    word(id);
     say(place);
     say(b"\n");
 }
 
 // A refusal of a question about the list with that id.
-pub(crate) fn refusal_of(x: Refusal, id: u64) {
+pub(crate) fn refusal_of(x: Refusal, id: Word) {
     if x.number == 15 {
         no_list(id, b"");
         return;

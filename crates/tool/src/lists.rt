@@ -8,22 +8,33 @@ use image::Outcome;
 use rules::Refusal;
 use rules::Rule;
 use rules::Verdict;
+use words::Word;
 
 // The width of an image that is accepted; 0 for any other.
 pub(crate) fn width_of(image: &[u8]) -> u32 {
     let o = image::width(image);
     if let Outcome::Number(w) = o {
-        if w <= 64 {
+        if w <= 128 {
             return w as u32;
         }
     }
     0
 }
 
+// The format of an image that is accepted; 0 for any other.
+fn format_of(image: &[u8]) -> usize {
+    let o = image::format(image);
+    if let Outcome::Number(n) = o {
+        return n;
+    }
+    0
+}
+
 // Whether an image that was accepted has a list with that id.
-pub(crate) fn has(image: &[u8], id: u64) -> bool {
-    if id <= 65535 {
-        let v = image::body_refusal(image, id as u16);
+pub(crate) fn has(image: &[u8], id: Word) -> bool {
+    let number = words::capped(id);
+    if number <= 65535 {
+        let v = image::body_refusal(image, number as u16);
         if let Verdict::Fine = v {
             return true;
         }
@@ -34,13 +45,14 @@ pub(crate) fn has(image: &[u8], id: u64) -> bool {
 // Reads a list out. An id above 65,535 is that of no list: the image's own refusals, then 15.
 pub(crate) fn read_list(
     image: &[u8],
-    id: u64,
+    id: Word,
     care: &mut [u64],
     value: &mut [u64],
     decision: &mut [u16],
 ) -> Outcome {
-    if id <= 65535 {
-        return image::read(image, id as u16, care, value, decision);
+    let number = words::capped(id);
+    if number <= 65535 {
+        return image::read(image, number as u16, care, value, decision);
     }
     let v = image::check(image);
     if let Verdict::Refused(x) = v {
@@ -73,6 +85,7 @@ fn check_image(image: &[u8]) {
 
 fn accepted(image: &[u8]) {
     lines::say(b"accepted\n");
+    lines::named(b"format ", format_of(image) as u64);
     lines::named(b"width ", width_of(image) as u64);
     let mut left: usize = 16;
     while left > 0 {
@@ -125,8 +138,8 @@ fn show_entry(image: &[u8], k: usize) {
 }
 
 fn show_list(image: &[u8], id: u16, count: usize) {
-    let mut care_space = [0u64; 1024];
-    let mut value_space = [0u64; 1024];
+    let mut care_space = [0u64; 2048];
+    let mut value_space = [0u64; 2048];
     let mut decision_space = [0u16; 1024];
     let care: &mut [u64] = &mut care_space;
     let value: &mut [u64] = &mut value_space;
@@ -144,7 +157,7 @@ fn show_rules(width: u32, care: &[u64], value: &[u64], decision: &[u16], count: 
 }
 
 fn show_rule(width: u32, rule: Rule) {
-    let mut space = [0u8; 64];
+    let mut space = [0u8; 128];
     let pattern: &mut [u8] = &mut space;
     let n = text::write_pattern(width, rule, pattern);
     lines::say(slices::bytes(pattern, n));

@@ -13,6 +13,7 @@ use rules::Wire;
 use swaps::Swap;
 use text::Number;
 use weaving::Counted;
+use words::Word;
 
 // lookup FILE ID HEADER
 pub(crate) fn lookup_file(at: usize) {
@@ -32,9 +33,9 @@ pub(crate) fn lookup_file(at: usize) {
     }
 }
 
-fn lookup_in(image: &[u8], id: u64, header: u64) {
-    let mut care_space = [0u64; 1024];
-    let mut value_space = [0u64; 1024];
+fn lookup_in(image: &[u8], id: Word, header: Word) {
+    let mut care_space = [0u64; 2048];
+    let mut value_space = [0u64; 2048];
     let mut decision_space = [0u16; 1024];
     let care: &mut [u64] = &mut care_space;
     let value: &mut [u64] = &mut value_space;
@@ -45,7 +46,7 @@ fn lookup_in(image: &[u8], id: u64, header: u64) {
             lists::width_of(image),
             slices::words(care, n),
             slices::words(value, n),
-            slices::halves(decision, n),
+            slices::shorts(decision, n),
             Wire(header),
         )),
         Outcome::Refused(x) => lines::refusal_of(x, id),
@@ -74,9 +75,9 @@ pub(crate) fn runs_file(at: usize) {
     }
 }
 
-fn runs_in(image: &[u8], id: u64) {
-    let mut care_space = [0u64; 1024];
-    let mut value_space = [0u64; 1024];
+fn runs_in(image: &[u8], id: Word) {
+    let mut care_space = [0u64; 2048];
+    let mut value_space = [0u64; 2048];
     let mut decision_space = [0u16; 1024];
     let care: &mut [u64] = &mut care_space;
     let value: &mut [u64] = &mut value_space;
@@ -87,7 +88,7 @@ fn runs_in(image: &[u8], id: u64) {
             lists::width_of(image),
             slices::words(care, n),
             slices::words(value, n),
-            slices::halves(decision, n),
+            slices::shorts(decision, n),
         ),
         Outcome::Refused(x) => lines::refusal_of(x, id),
     }
@@ -110,7 +111,7 @@ fn runs_of(width: u32, care: &[u64], value: &[u64], decision: &[u16]) {
 fn show_sizes(sizes: &[u16], count: usize) {
     let mut left = count;
     while left > 0 {
-        lines::named(b"", slices::half_at(sizes, count - left));
+        lines::named(b"", slices::wide_at(sizes, count - left));
         left -= 1;
     }
 }

@@ -4,24 +4,29 @@ pub(crate) fn bytes(s: &[u8], n: usize) -> &[u8] {
     if n <= s.len() { &s[..n] } else { &s[..0] }
 }
 
+// The first n words, each of which is two numbers of the slice.
 pub(crate) fn words(s: &[u64], n: usize) -> &[u64] {
+    if n <= s.len() / 2 {
+        &s[..n * 2]
+    } else {
+        &s[..0]
+    }
+}
+
+pub(crate) fn shorts(s: &[u16], n: usize) -> &[u16] {
     if n <= s.len() { &s[..n] } else { &s[..0] }
 }
 
-pub(crate) fn halves(s: &[u16], n: usize) -> &[u16] {
-    if n <= s.len() { &s[..n] } else { &s[..0] }
-}
-
-// What is left from a place on.
+// The words from a place on.
 pub(crate) fn later_words(s: &mut [u64], from: usize) -> &mut [u64] {
-    if from <= s.len() {
-        &mut s[from..]
+    if from <= s.len() / 2 {
+        &mut s[from * 2..]
     } else {
         &mut s[..0]
     }
 }
 
-pub(crate) fn later_halves(s: &mut [u16], from: usize) -> &mut [u16] {
+pub(crate) fn later_shorts(s: &mut [u16], from: usize) -> &mut [u16] {
     if from <= s.len() {
         &mut s[from..]
     } else {
@@ -33,7 +38,7 @@ fn wide_byte(x: u8) -> u64 {
     x as u64
 }
 
-fn wide_half(x: u16) -> u64 {
+fn wide_short(x: u16) -> u64 {
     x as u64
 }
 
@@ -41,12 +46,8 @@ pub(crate) fn byte_at(s: &[u8], i: usize) -> u64 {
     if i < s.len() { wide_byte(s[i]) } else { 0 }
 }
 
-pub(crate) fn word_at(s: &[u64], i: usize) -> u64 {
-    if i < s.len() { s[i] } else { 0 }
-}
-
-pub(crate) fn half_at(s: &[u16], i: usize) -> u64 {
-    if i < s.len() { wide_half(s[i]) } else { 0 }
+pub(crate) fn wide_at(s: &[u16], i: usize) -> u64 {
+    if i < s.len() { wide_short(s[i]) } else { 0 }
 }
 
 // The number at a place as it stands.
@@ -60,7 +61,7 @@ pub(crate) fn put_byte(s: &mut [u8], i: usize, x: u8) {
     }
 }
 
-pub(crate) fn put_half(s: &mut [u16], i: usize, x: u16) {
+pub(crate) fn put_short(s: &mut [u16], i: usize, x: u16) {
     if i < s.len() {
         s[i] = x;
     }

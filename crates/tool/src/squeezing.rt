@@ -19,48 +19,70 @@ pub(crate) fn weave_file(at: usize) {
     }
 }
 
+// The new image has the format of the old one.
 fn weave_image(at: usize, image: &[u8]) {
+    let f = image::format(image);
+    match f {
+        Outcome::Number(n) => weave_as(at, image, byte(n)),
+        Outcome::Refused(x) => lines::refusal(x),
+    }
+}
+
+// A format; what is none is 0, which the writer refuses.
+fn byte(n: usize) -> u8 {
+    if n <= 255 { n as u8 } else { 0 }
+}
+
+fn weave_as(at: usize, image: &[u8], format: u8) {
     let w = image::width(image);
     match w {
-        Outcome::Number(n) => weave_counted(at, image, narrow(n)),
+        Outcome::Number(n) => weave_counted(at, image, format, narrow(n)),
         Outcome::Refused(x) => lines::refusal(x),
     }
 }
 
 // A width; what is none is 0, which weaving refuses.
 fn narrow(n: usize) -> u32 {
-    if n <= 64 { n as u32 } else { 0 }
+    if n <= 128 { n as u32 } else { 0 }
 }
 
-fn weave_counted(at: usize, image: &[u8], width: u32) {
+fn weave_counted(at: usize, image: &[u8], format: u8, width: u32) {
     let c = image::count(image);
     match c {
-        Outcome::Number(n) => weave_all(at, image, width, n),
+        Outcome::Number(n) => weave_all(at, image, format, width, n),
         Outcome::Refused(x) => lines::refusal(x),
     }
 }
 
-fn weave_all(at: usize, image: &[u8], width: u32, count: usize) {
+fn weave_all(at: usize, image: &[u8], format: u8, width: u32, count: usize) {
     let mut id_space = [0u16; 16];
     let mut rule_space = [0u16; 16];
     let ids: &mut [u16] = &mut id_space;
     let rules: &mut [u16] = &mut rule_space;
     let v = put_entries(image, count, ids, rules);
     match v {
-        Verdict::Fine => weave_named(at, image, width, count, ids, rules),
+        Verdict::Fine => weave_named(at, image, format, width, count, ids, rules),
         Verdict::Refused(x) => lines::refusal(x),
     }
 }
 
 // The lines are written once the file is in its place.
-fn weave_named(at: usize, image: &[u8], width: u32, count: usize, ids: &[u16], rules: &[u16]) {
+fn weave_named(
+    at: usize,
+    image: &[u8],
+    format: u8,
+    width: u32,
+    count: usize,
+    ids: &[u16],
+    rules: &[u16],
+) {
     let mut kept_space = [0u16; 16];
     let mut dropped_space = [0u16; 16];
     let mut merged_space = [0u16; 16];
     let kept: &mut [u16] = &mut kept_space;
     let dropped: &mut [u16] = &mut dropped_space;
     let merged: &mut [u16] = &mut merged_space;
-    if woven(at, image, width, count, ids, kept, dropped, merged) {
+    if woven(at, image, format, width, count, ids, kept, dropped, merged) {
         report(count, ids, rules, kept, dropped, merged);
     }
 }
@@ -69,6 +91,7 @@ fn weave_named(at: usize, image: &[u8], width: u32, count: usize, ids: &[u16], r
 fn woven(
     at: usize,
     image: &[u8],
+    format: u8,
     width: u32,
     count: usize,
     ids: &[u16],
@@ -76,8 +99,8 @@ fn woven(
     dropped: &mut [u16],
     merged: &mut [u16],
 ) -> bool {
-    let mut care_space = [0u64; 3640];
-    let mut value_space = [0u64; 3640];
+    let mut care_space = [0u64; 7280];
+    let mut value_space = [0u64; 7280];
     let mut decision_space = [0u16; 3640];
     let care: &mut [u64] = &mut care_space;
     let value: &mut [u64] = &mut value_space;
@@ -97,12 +120,13 @@ fn woven(
     match o {
         Outcome::Number(n) => saved(
             at,
+            format,
             width,
-            slices::halves(ids, count),
-            slices::halves(kept, count),
+            slices::shorts(ids, count),
+            slices::shorts(kept, count),
             slices::words(care, n),
             slices::words(value, n),
-            slices::halves(decision, n),
+            slices::shorts(decision, n),
         ),
         Outcome::Refused(x) => {
             lines::refusal(x);
@@ -119,8 +143,8 @@ fn put_entries(image: &[u8], count: usize, ids: &mut [u16], rules: &mut [u16]) -
         let e = image::entry(image, i + 1);
         match e {
             Listed::List { id, rules: n } => {
-                slices::put_half(ids, i, id);
-                slices::put_half(rules, i, short(n));
+                slices::put_short(ids, i, id);
+                slices::put_short(rules, i, short(n));
             }
             Listed::Refused(x) => return Verdict::Refused(x),
         }
@@ -161,9 +185,9 @@ fn weave_lists(
 }
 
 fn put_tally(i: usize, tally: Tally, kept: &mut [u16], dropped: &mut [u16], merged: &mut [u16]) {
-    slices::put_half(kept, i, short(tally.kept));
-    slices::put_half(dropped, i, short(tally.dropped));
-    slices::put_half(merged, i, short(tally.merged));
+    slices::put_short(kept, i, short(tally.kept));
+    slices::put_short(dropped, i, short(tally.dropped));
+    slices::put_short(merged, i, short(tally.merged));
 }
 
 // A number of rules of one list; what is none is 65,535, which the writer refuses.
@@ -197,7 +221,7 @@ fn weave_from(
         id,
         slices::later_words(care, from),
         slices::later_words(value, from),
-        slices::later_halves(decision, from),
+        slices::later_shorts(decision, from),
     )
 }
 
@@ -209,8 +233,8 @@ fn weave_list(
     out_value: &mut [u64],
     out_decision: &mut [u16],
 ) -> Woven {
-    let mut care_space = [0u64; 1024];
-    let mut value_space = [0u64; 1024];
+    let mut care_space = [0u64; 2048];
+    let mut value_space = [0u64; 2048];
     let mut decision_space = [0u16; 1024];
     let care: &mut [u64] = &mut care_space;
     let value: &mut [u64] = &mut value_space;
@@ -221,7 +245,7 @@ fn weave_list(
             width,
             slices::words(care, n),
             slices::words(value, n),
-            slices::halves(decision, n),
+            slices::shorts(decision, n),
             out_care,
             out_value,
             out_decision,
@@ -233,6 +257,7 @@ fn weave_list(
 // Makes the image of the woven lists, and the file of the image.
 fn saved(
     at: usize,
+    format: u8,
     width: u32,
     ids: &[u16],
     kept: &[u16],
@@ -242,7 +267,7 @@ fn saved(
 ) -> bool {
     let mut space = io::large_buffer();
     let out: &mut [u8] = &mut space;
-    let o = image_writer::write(width, ids, kept, care, value, decision, out);
+    let o = image_writer::write(format, width, ids, kept, care, value, decision, out);
     match o {
         Outcome::Number(n) => files::save_word(at, 3, slices::bytes(out, n)),
         Outcome::Refused(x) => {
@@ -257,11 +282,11 @@ fn report(count: usize, ids: &[u16], rules: &[u16], kept: &[u16], dropped: &[u16
     while left > 0 {
         let i = count - left;
         report_list(
-            slices::half_at(ids, i),
-            slices::half_at(rules, i),
-            slices::half_at(kept, i),
-            slices::half_at(dropped, i),
-            slices::half_at(merged, i),
+            slices::wide_at(ids, i),
+            slices::wide_at(rules, i),
+            slices::wide_at(kept, i),
+            slices::wide_at(dropped, i),
+            slices::wide_at(merged, i),
         );
         left -= 1;
     }

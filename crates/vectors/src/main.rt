@@ -1,5 +1,5 @@
 // Runs the comparison on pairs of images that somebody else made, and writes for each what the bench program would write.
-// The pairs come in two sets. The images are in data/, and what must be written is in stdout.
+// The pairs come in three sets. The images are in data/, and what must be written is in stdout.
 use compare::Ending;
 
 fn case(name: &[u8], old_path: &[u8], new_path: &[u8]) {
@@ -37,6 +37,18 @@ fn second_set() {
     case(b"b013\n", b"b013.old", b"b013.new");
 }
 
+// Images of both formats and widths up to 128.
+fn wide_set() {
+    case(b"w001\n", b"w001.old", b"w001.new");
+    case(b"w007\n", b"w007.old", b"w007.new");
+    case(b"w022\n", b"w022.old", b"w022.new");
+    case(b"w026\n", b"w026.old", b"w026.new");
+    case(b"x003\n", b"x003.old", b"x003.new");
+    case(b"x007\n", b"x007.old", b"x007.new");
+    case(b"x012\n", b"x012.old", b"x012.new");
+    case(b"x017\n", b"x017.old", b"x017.new");
+}
+
 // A file that is not there counts as one of no bytes.
 fn missing() {
     case(b"no old file\n", b"missing.old", b"002.new");
@@ -47,5 +59,6 @@ fn missing() {
 fn main() {
     first_set();
     second_set();
+    wide_set();
     missing();
 }

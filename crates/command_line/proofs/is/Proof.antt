@@ -1,5 +1,5 @@
 use Rattle.command_line.specs.Words.{asks}
-use Rattle.rules.proofs.Tests.{and-on, and-off}
+use Rattle.words.proofs.Tests.{and-on, and-off}
 use Rattle.command_line.proofs.WordLaws.{same-decided}
 use borrow.Author.Tests.{eq-eqb, ne-eqb}
 use mathlib.Core.Path.{_≡_, refl, sym, ap, _∙_}

@@ -1,20 +1,20 @@
-use borrow.Author.Needs.{needs}
 use lib.ListN.{length}
 use mathlib.Core.Path.{_≡_, _∙_}
+use borrow.Author.Needs.{needs}
 use Rattle.cases.proofs.given.put_numbers.Statement.{statement}
 use Rattle.cases.proofs.given.put_numbers.Tie as tie
 use Rattle.cases.proofs.given.put_numbers.Reads as reads
 use Rattle.cases.proofs.given.put_numbers.Lts as lts
 use Rattle.cases.proofs.given.first_of.Reads as first-of-reads
 use Rattle.cases.proofs.given.rest_of.Reads as rest-of-reads
-use Rattle.cases.proofs.slices.put_word.Reads as put-word-reads
 use Rattle.cases.proofs.source.next.Reads as next-reads
+use Rattle.words.proofs.put_word.Reads as put-word-reads
 
 abbrev Inv-loop : tie.InvT-loop
-Inv-loop out₀ from value times way x₀ i₀ left₀ out x i left = length out ≡ length out₀
+Inv-loop out₀ from times way x₀ i₀ left₀ out x i left = length out ≡ length out₀
 
 abbrev μ-loop : tie.MeasureT-loop
-μ-loop out₀ from value times way x₀ i₀ left₀ out x i left = left
+μ-loop out₀ from times way x₀ i₀ left₀ out x i left = left
 
 loop-holds : tie.Need-loop-holds Inv-loop μ-loop
 loop-holds c = search needs

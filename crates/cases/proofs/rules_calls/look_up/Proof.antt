@@ -1,6 +1,5 @@
-use borrow.Author.Needs.{needs}
-use lib.ListN.{length}
 use Prim.Native.Nat.{_-_}
+use borrow.Author.Needs.{needs}
 use Rattle.cases.proofs.rules_calls.look_up.Statement.{statement}
 use Rattle.cases.proofs.rules_calls.look_up.Tie as tie
 use Rattle.cases.proofs.rules_calls.look_up.Reads as reads
@@ -8,13 +7,13 @@ use Rattle.cases.proofs.rules_calls.look_up.Lts as lts
 use Rattle.cases.proofs.rules_calls.looked.Reads as rules-calls-looked-reads
 use Rattle.cases.proofs.show.between.Reads as between-reads
 use Rattle.cases.proofs.show.looked.Reads as show-looked-reads
-use Rattle.cases.proofs.slices.word_at.Reads as word-at-reads
+use Rattle.words.proofs.word_at.Reads as word-at-reads
 
 abbrev Inv-loop : tie.InvT-loop
-Inv-loop call width care value decision headers w to at₀ i₀ at i = Unit {0}
+Inv-loop call width care value decision headers count w to at₀ i₀ at i = Unit {0}
 
 abbrev μ-loop : tie.MeasureT-loop
-μ-loop call width care value decision headers w to at₀ i₀ at i = length headers - i
+μ-loop call width care value decision headers count w to at₀ i₀ at i = count - i
 
 loop-holds : tie.Need-loop-holds Inv-loop μ-loop
 loop-holds c = search needs

@@ -1,10 +1,11 @@
-use borrow.Author.Needs.{needs}
 use Prim.Native.Nat.{_-_}
+use borrow.Author.Needs.{needs}
 use Rattle.cases.proofs.runs.are_answers.Statement.{statement}
 use Rattle.cases.proofs.runs.are_answers.Tie as tie
 use Rattle.cases.proofs.runs.are_answers.Reads as reads
 use Rattle.cases.proofs.runs.are_answers.Lts as lts
-use Rattle.cases.proofs.slices.word_at.Reads as word-at-reads
+use Rattle.words.proofs.below.Reads as below-reads
+use Rattle.words.proofs.word_at.Reads as word-at-reads
 
 abbrev Inv-loop : tie.InvT-loop
 Inv-loop numbers count i₀ i = Unit {0}
@@ -17,6 +18,9 @@ loop-holds c = search needs
 
 word-at-requires : tie.Need-word-at-requires Inv-loop μ-loop
 word-at-requires c κs = search needs
+
+below-requires : tie.Need-below-requires Inv-loop μ-loop
+below-requires c κs = search needs
 
 returns : tie.Need-returns Inv-loop μ-loop
 returns c = search needs
@@ -41,6 +45,7 @@ are-answers-spec =
     μ-loop
     loop-holds
     word-at-requires
+    below-requires
     returns
     add-i
     loop-less

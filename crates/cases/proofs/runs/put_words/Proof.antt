@@ -1,12 +1,12 @@
-use borrow.Author.Needs.{needs}
 use lib.ListN.{length}
 use mathlib.Core.Path.{_≡_, _∙_}
+use borrow.Author.Needs.{needs}
 use Rattle.cases.proofs.runs.put_words.Statement.{statement}
 use Rattle.cases.proofs.runs.put_words.Tie as tie
 use Rattle.cases.proofs.runs.put_words.Reads as reads
 use Rattle.cases.proofs.runs.put_words.Lts as lts
 use Rattle.cases.proofs.runs.number_of.Reads as number-of-reads
-use Rattle.cases.proofs.slices.put_word.Reads as put-word-reads
+use Rattle.words.proofs.put_word.Reads as put-word-reads
 
 abbrev Inv-loop : tie.InvT-loop
 Inv-loop numbers k out₀ left₀ out left = length out ≡ length out₀

@@ -1,6 +1,6 @@
-use borrow.Author.Needs.{needs}
-use lib.ListN.{length}
 use Prim.Native.Nat.{_-_}
+use lib.ListN.{length}
+use borrow.Author.Needs.{needs}
 use Rattle.cases.proofs.show.alike_until.Statement.{statement}
 use Rattle.cases.proofs.show.alike_until.Tie as tie
 use Rattle.cases.proofs.show.alike_until.Reads as reads
@@ -12,7 +12,7 @@ abbrev Inv-loop : tie.InvT-loop
 Inv-loop care value decision i r end₀ end = Unit {0}
 
 abbrev μ-loop : tie.MeasureT-loop
-μ-loop care value decision i r end₀ end = length care - end
+μ-loop care value decision i r end₀ end = length decision - end
 
 rule-at-requires : tie.Need-rule-at-requires Inv-loop μ-loop
 rule-at-requires c κs = search needs

@@ -1,6 +1,6 @@
-use borrow.Author.Needs.{needs}
-use lib.ListN.{length}
 use Prim.Native.Nat.{_-_}
+use lib.ListN.{length}
+use borrow.Author.Needs.{needs}
 use Rattle.cases.proofs.show.runs_of.Statement.{statement}
 use Rattle.cases.proofs.show.runs_of.Tie as tie
 use Rattle.cases.proofs.show.runs_of.Reads as reads
@@ -8,14 +8,14 @@ use Rattle.cases.proofs.show.runs_of.Lts as lts
 use Rattle.cases.proofs.show.between.Reads as between-reads
 use Rattle.cases.proofs.show.glyph.Reads as glyph-reads
 use Rattle.cases.proofs.show.run.Reads as run-reads
-use Rattle.cases.proofs.slices.half_at.Reads as half-at-reads
-use Rattle.cases.proofs.slices.word_at.Reads as word-at-reads
+use Rattle.cases.proofs.slices.short_at.Reads as short-at-reads
+use Rattle.words.proofs.word_at.Reads as word-at-reads
 
 abbrev Inv-loop : tie.InvT-loop
 Inv-loop w from first last old new at₀ i₀ at i = Unit {0}
 
 abbrev μ-loop : tie.MeasureT-loop
-μ-loop w from first last old new at₀ i₀ at i = length first - i
+μ-loop w from first last old new at₀ i₀ at i = length old - i
 
 glyph-requires : tie.Need-glyph-requires Inv-loop μ-loop
 glyph-requires c κs = search needs
@@ -32,14 +32,14 @@ word-at-requires c κs = search needs
 word-at-requires-2 : tie.Need-word-at-requires-2 Inv-loop μ-loop
 word-at-requires-2 c κs = search needs
 
-half-at-requires : tie.Need-half-at-requires Inv-loop μ-loop
-half-at-requires c κs = search needs
+short-at-requires : tie.Need-short-at-requires Inv-loop μ-loop
+short-at-requires c κs = search needs
 
 cast-run : tie.Need-cast-run Inv-loop μ-loop
 cast-run c = search needs
 
-half-at-requires-2 : tie.Need-half-at-requires-2 Inv-loop μ-loop
-half-at-requires-2 c κs = search needs
+short-at-requires-2 : tie.Need-short-at-requires-2 Inv-loop μ-loop
+short-at-requires-2 c κs = search needs
 
 cast-run-2 : tie.Need-cast-run-2 Inv-loop μ-loop
 cast-run-2 c = search needs
@@ -73,9 +73,9 @@ runs-of-spec =
     between-requires
     word-at-requires
     word-at-requires-2
-    half-at-requires
+    short-at-requires
     cast-run
-    half-at-requires-2
+    short-at-requires-2
     cast-run-2
     run-requires
     add-i

@@ -1,29 +1,30 @@
-use borrow.Author.Needs.{needs}
+use Prim.Native.Nat.{_-_, _/_}
 use lib.ListN.{length}
-use Prim.Native.Nat.{_-_}
+use borrow.Author.Needs.{needs}
 use Rattle.cases.proofs.show.same_until.Statement.{statement}
 use Rattle.cases.proofs.show.same_until.Tie as tie
 use Rattle.cases.proofs.show.same_until.Reads as reads
 use Rattle.cases.proofs.show.same_until.Lts as lts
-use Rattle.cases.proofs.slices.word_at.Reads as word-at-reads
+use Rattle.words.proofs.same.Reads as same-reads
+use Rattle.words.proofs.word_at.Reads as word-at-reads
 
 abbrev Inv-loop : tie.InvT-loop
-Inv-loop s i end₀ end = Unit {0}
+Inv-loop s i first end₀ end = Unit {0}
 
 abbrev μ-loop : tie.MeasureT-loop
-μ-loop s i end₀ end = length s - end
+μ-loop s i first end₀ end = length s / 2 - end
+
+word-at-requires : tie.Need-word-at-requires Inv-loop μ-loop
+word-at-requires c κs = search needs
 
 loop-holds : tie.Need-loop-holds Inv-loop μ-loop
 loop-holds c = search needs
 
-mul-if1 : tie.Need-mul-if1 Inv-loop μ-loop
-mul-if1 c = search needs
+word-at-requires-2 : tie.Need-word-at-requires-2 Inv-loop μ-loop
+word-at-requires-2 c κs = search needs
 
-shared-slice-read-if1 : tie.Need-shared-slice-read-if1 Inv-loop μ-loop
-shared-slice-read-if1 c = search needs
-
-word-at-requires : tie.Need-word-at-requires Inv-loop μ-loop
-word-at-requires c κs = search needs
+same-requires : tie.Need-same-requires Inv-loop μ-loop
+same-requires c κs = search needs
 
 returns : tie.Need-returns Inv-loop μ-loop
 returns c = search needs
@@ -46,10 +47,10 @@ same-until-spec =
     (tie.spec
     Inv-loop
     μ-loop
-    loop-holds
-    mul-if1
-    shared-slice-read-if1
     word-at-requires
+    loop-holds
+    word-at-requires-2
+    same-requires
     returns
     add-end
     loop-less

@@ -1,13 +1,14 @@
-use borrow.Author.Needs.{needs}
-use lib.ListN.{length}
 use Prim.Native.Nat.{_-_}
+use lib.ListN.{length}
 use mathlib.Core.Path.{_≡_, _∙_}
+use borrow.Author.Needs.{needs}
 use Rattle.cases.proofs.slices.of_bytes.Statement.{statement}
 use Rattle.cases.proofs.slices.of_bytes.Tie as tie
 use Rattle.cases.proofs.slices.of_bytes.Reads as reads
 use Rattle.cases.proofs.slices.of_bytes.Lts as lts
 use Rattle.cases.proofs.slices.byte_at.Reads as byte-at-reads
-use Rattle.cases.proofs.slices.put_word.Reads as put-word-reads
+use Rattle.words.proofs.wide.Reads as wide-reads
+use Rattle.words.proofs.put_word.Reads as put-word-reads
 
 abbrev Inv-loop : tie.InvT-loop
 Inv-loop from to₀ i₀ to i = length to ≡ length to₀
@@ -21,8 +22,11 @@ loop-holds c = search needs
 byte-at-requires : tie.Need-byte-at-requires Inv-loop μ-loop
 byte-at-requires c κs = search needs
 
-cast-put-word : tie.Need-cast-put-word Inv-loop μ-loop
-cast-put-word c = search needs
+cast-wide : tie.Need-cast-wide Inv-loop μ-loop
+cast-wide c = search needs
+
+wide-requires : tie.Need-wide-requires Inv-loop μ-loop
+wide-requires c κs = search needs
 
 put-word-requires : tie.Need-put-word-requires Inv-loop μ-loop
 put-word-requires c κs = search needs
@@ -50,7 +54,8 @@ of-bytes-spec =
     μ-loop
     loop-holds
     byte-at-requires
-    cast-put-word
+    cast-wide
+    wide-requires
     put-word-requires
     add-i
     loop-less

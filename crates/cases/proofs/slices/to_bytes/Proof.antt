@@ -1,27 +1,29 @@
-use borrow.Author.Needs.{needs}
-use lib.ListN.{length}
 use Prim.Native.Nat.{_-_}
+use lib.ListN.{length}
 use mathlib.Core.Path.{_≡_, _∙_}
+use borrow.Author.Needs.{needs}
 use Rattle.cases.proofs.slices.to_bytes.Statement.{statement}
 use Rattle.cases.proofs.slices.to_bytes.Tie as tie
 use Rattle.cases.proofs.slices.to_bytes.Reads as reads
 use Rattle.cases.proofs.slices.to_bytes.Lts as lts
 use Rattle.cases.proofs.slices.put_byte.Reads as put-byte-reads
+use Rattle.words.proofs.capped.Reads as capped-reads
+use Rattle.words.proofs.word_at.Reads as word-at-reads
 
 abbrev Inv-loop : tie.InvT-loop
-Inv-loop from to₀ i₀ to i = length to ≡ length to₀
+Inv-loop from count to₀ i₀ to i = length to ≡ length to₀
 
 abbrev μ-loop : tie.MeasureT-loop
-μ-loop from to₀ i₀ to i = length from - i
+μ-loop from count to₀ i₀ to i = count - i
 
 loop-holds : tie.Need-loop-holds Inv-loop μ-loop
 loop-holds c = search needs
 
-mul-put-byte : tie.Need-mul-put-byte Inv-loop μ-loop
-mul-put-byte c = search needs
+word-at-requires : tie.Need-word-at-requires Inv-loop μ-loop
+word-at-requires c κs = search needs
 
-shared-slice-read-put-byte : tie.Need-shared-slice-read-put-byte Inv-loop μ-loop
-shared-slice-read-put-byte c = search needs
+capped-requires : tie.Need-capped-requires Inv-loop μ-loop
+capped-requires c κs = search needs
 
 cast-put-byte : tie.Need-cast-put-byte Inv-loop μ-loop
 cast-put-byte c = search needs
@@ -51,8 +53,8 @@ to-bytes-spec =
     Inv-loop
     μ-loop
     loop-holds
-    mul-put-byte
-    shared-slice-read-put-byte
+    word-at-requires
+    capped-requires
     cast-put-byte
     put-byte-requires
     add-i

@@ -1,14 +1,14 @@
-use borrow.Author.Needs.{needs}
 use Prim.Native.Nat.{_≤_}
-use mathlib.Core.Path.{_≡_}
-use lib.ListN.{length, length-set}
+use lib.ListN.{length}
+use mathlib.Core.Path.{_≡_, _∙_}
+use borrow.Author.Needs.{needs}
 use Rattle.cases.proofs.swaps_calls.still.Statement.{statement}
 use Rattle.cases.proofs.swaps_calls.still.Tie as tie
 use Rattle.cases.proofs.swaps_calls.still.Reads as reads
 use Rattle.cases.proofs.swaps_calls.still.Lts as lts
 
 abbrev Inv-loop : tie.InvT-loop
-Inv-loop places₀ left₀ places left = (left ≤ 64) × (length places ≡ 64)
+Inv-loop places₀ left₀ places left = (left ≤ 128) × (length places ≡ 128)
 
 abbrev μ-loop : tie.MeasureT-loop
 μ-loop places₀ left₀ places left = left
@@ -32,7 +32,7 @@ loop-less : tie.Need-loop-less Inv-loop μ-loop
 loop-less c = search needs
 
 loop-again : tie.Need-loop-again Inv-loop μ-loop
-loop-again c = (search needs, simp length-set (search needs))
+loop-again c = search needs
 
 returns : tie.Need-returns Inv-loop μ-loop
 returns c = search needs

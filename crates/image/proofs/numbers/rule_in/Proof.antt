@@ -1,43 +1,57 @@
-use Prim.Native.Nat.{_-_}
-use denote.Ref.{now}
+use Prim.Native.Nat.{_+_}
+use Rattle.image.proofs.FormatLaws.{rule-words}
 use Rattle.image.proofs.NumberLaws.{rule-from}
+use denote.Ref.{now}
+use native.Mathlib.Omega.{arith}
 use borrow.Author.Needs.{needs}
 use Rattle.image.proofs.numbers.rule_in.Statement.{statement}
 use Rattle.image.proofs.numbers.rule_in.Tie as tie
 use Rattle.image.proofs.numbers.rule_in.Reads as reads
 use Rattle.image.proofs.numbers.rule_in.Lts as lts
+use Rattle.image.proofs.formats.word_bytes.Reads as word-bytes-reads
 use Rattle.image.proofs.numbers.u16_at.Reads as u16-at-reads
-use Rattle.image.proofs.numbers.u64_at.Reads as u64-at-reads
+use Rattle.image.proofs.numbers.word_in.Reads as word-in-reads
 
-u64-at-requires : tie.Need-u64-at-requires
-u64-at-requires c κs = search needs
+word-bytes-requires : tie.Need-word-bytes-requires
+word-bytes-requires c κs = search needs
 
-add-u64-at : tie.Need-add-u64-at
-add-u64-at c = search needs
+word-in-requires : tie.Need-word-in-requires
+word-in-requires c κs = omega (arith, rule-words (c .before .before .args .format))
 
-u64-at-requires-2 : tie.Need-u64-at-requires-2
-u64-at-requires-2 c κs = search needs
+add-word-in : tie.Need-add-word-in
+add-word-in c = search needs
+
+word-in-requires-2 : tie.Need-word-in-requires-2
+word-in-requires-2 c κs = omega (arith, rule-words (c .before .before .before .args .format))
 
 add-u16-at : tie.Need-add-u16-at
 add-u16-at c = search needs
 
+add-u16-at-2 : tie.Need-add-u16-at-2
+add-u16-at-2 c = search needs
+
 u16-at-requires : tie.Need-u16-at-requires
-u16-at-requires c κs = search needs
+u16-at-requires c κs = omega (arith, rule-words (c .before .before .before .before .args .format))
 
 cast-decision : tie.Need-cast-decision
 cast-decision c = search needs
 
 returns : tie.Need-returns
-returns c = rule-from (c .before .before .before .before .args .at) (now (c .before .before .before .before .args .b)) (c .before .before .u64-at .ensures .0) (c .before .u64-at2 .ensures .0) (c .u16-at .ensures .0)
+returns c =
+    let a = c .before .before .before .before .before .args in
+    let w = c .before .before .before .word-bytes .result in
+    rule-from (a .format) (a .at) (a .at + w) (a .at + w + w) (now (a .b)) _ _ _ (omega arith) (omega arith) (c .before .before .word-in .ensures) (c .before .word-in2 .ensures) (c .u16-at .ensures .0)
 
 pub rule-in-spec : {M : Type 1} → statement M
 rule-in-spec =
     tie.close
     (tie.spec
-    u64-at-requires
-    add-u64-at
-    u64-at-requires-2
+    word-bytes-requires
+    word-in-requires
+    add-word-in
+    word-in-requires-2
     add-u16-at
+    add-u16-at-2
     u16-at-requires
     cast-decision
     returns)

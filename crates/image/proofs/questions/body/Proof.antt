@@ -1,5 +1,6 @@
+use native.Mathlib.Omega.{arith}
 use mathlib.Core.Path.{ap, _∙_}
-use Prim.Native.Nat.{ℕ, _-_, _*_}
+use Prim.Native.Nat.{ℕ, _-_}
 use denote.Ref.{now}
 use native.Mathlib.Nat.{add-sub-cancel-left}
 use Rattle.image.specs.Bytes.{part}
@@ -9,6 +10,7 @@ use Rattle.image.proofs.questions.body.Statement.{statement}
 use Rattle.image.proofs.questions.body.Tie as tie
 use Rattle.image.proofs.questions.body.Reads as reads
 use Rattle.image.proofs.questions.body.Lts as lts
+use Rattle.image.proofs.formats.body_size.Reads as body-size-reads
 use Rattle.image.proofs.places.find.Reads as find-reads
 use Rattle.image.proofs.questions.body_refusal.Reads as body-refusal-reads
 
@@ -32,8 +34,11 @@ find-requires c κs =
     let f = id-facts _ _ _ (c .before .before .body-refusal .ensures) (c .enum-told .given .1) in
     (f .head .least, f .head .most, f .sums)
 
-mul-end : tie.Need-mul-end
-mul-end c = search needs
+shared-slice-read-body-size : tie.Need-shared-slice-read-body-size
+shared-slice-read-body-size c = omega (arith, id-facts _ _ _ (c .before .before .before .before .body-refusal .ensures) (c .before .before .enum-told .given .1) .head .least)
+
+body-size-requires : tie.Need-body-size-requires
+body-size-requires c κs = search needs
 
 add-end : tie.Need-add-end
 add-end c = search needs
@@ -49,9 +54,9 @@ part-result-end c = search needs
 
 returns-2 : tie.Need-returns-2
 returns-2 c =
-    let t = c .before .before in
+    let t = c .before .before .before in
     let b = now (t .before .before .before .before .before .args .image) in
-    ap (λ (k : ℕ). part k (t .find .result .from) b) (add-sub-cancel-left (t .find .result .from) (18 * t .find .result .count))
+    ap (λ (k : ℕ). part k (t .find .result .from) b) (add-sub-cancel-left (t .find .result .from) (c .before .body-size .result) ∙ c .before .body-size .ensures .0)
     ∙ body-found b _ _ (t .find .result) (t .before .before .before .body-refusal .ensures) (t .before .enum-told .given .1) (t .find .ensures .0)
 
 pub body-spec : {M : Type 1} → statement M
@@ -64,7 +69,8 @@ body-spec =
     slice-aggregate-result
     returns
     find-requires
-    mul-end
+    shared-slice-read-body-size
+    body-size-requires
     add-end
     sub-result
     part-result-start

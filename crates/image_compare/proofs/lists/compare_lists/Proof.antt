@@ -1,7 +1,7 @@
 use mathlib.Core.List.{[]}
 use native.Mathlib.Omega.{arith}
 use Rattle.image.proofs.SeekLaws.{image-facts}
-use Rattle.image_compare.proofs.ReadLaws.{held-rules, held-cares, held-values, held-decisions, room-cares, room-values, room-decisions, held-passes, read-refused, read-passed, read-image, read-held}
+use Rattle.image_compare.proofs.ReadLaws.{held-rules, held-cares, held-values, held-decisions, room-cares, room-values, room-decisions, held-passes, read-refused, read-passed, read-image, read-few, read-held}
 use Rattle.image_compare.proofs.CompareLaws.{lists-refused, lists-compared}
 use borrow.Author.Needs.{needs}
 use Rattle.image_compare.proofs.lists.compare_lists.Statement.{statement}
@@ -32,6 +32,9 @@ refused-requires c κs = search needs
 
 enum-known-o-2 : tie.Need-enum-known-o-2
 enum-known-o-2 c = search needs
+
+mul-halves : tie.Need-mul-halves
+mul-halves c = omega (arith, read-few _ _ _ _ _ _ _ _ _ (c .before .before .before .before .before .before .read .ensures) _ (c .before .o2 .given .1))
 
 array-share-prefix-cares : tie.Need-array-share-prefix-cares
 array-share-prefix-cares c = room-cares _ _ _ _ _ (read-held _ _ _ _ _ _ _ _ _ (c .before .before .before .before .before .before .read .ensures) _ (c .before .o2 .given .1))
@@ -83,6 +86,7 @@ compare-lists-spec =
     enum-known-o
     refused-requires
     enum-known-o-2
+    mul-halves
     array-share-prefix-cares
     slice-aggregate-compare-with
     array-share-prefix-values

@@ -1,7 +1,7 @@
 use mathlib.Core.List.{[]}
 use native.Mathlib.Omega.{arith}
 use Rattle.image.proofs.SeekLaws.{image-facts}
-use Rattle.image_compare.proofs.ReadLaws.{held-rules, held-cares, held-values, held-decisions, room-cares, room-values, room-decisions, held-passes, read-refused, read-passed, read-image, read-held}
+use Rattle.image_compare.proofs.ReadLaws.{held-rules, held-cares, held-values, held-decisions, room-cares, room-values, room-decisions, held-passes, read-refused, read-passed, read-image, read-few, read-held}
 use Rattle.image_compare.proofs.CompareLaws.{rest-refused, rest-sixteen, rest-compared}
 use borrow.Author.Needs.{needs}
 use Rattle.image_compare.proofs.lists.compare_with.Statement.{statement}
@@ -54,6 +54,9 @@ wide-requires c κs = search needs
 
 cast-width : tie.Need-cast-width
 cast-width c = search needs
+
+mul-halves : tie.Need-mul-halves
+mul-halves c = omega (arith, read-few _ _ _ _ _ _ _ _ _ (c .before .before .before .before .before .before .before .before .before .before .before .read .ensures) _ (c .before .before .before .before .before .before .n2 .given .1))
 
 array-share-prefix-cares : tie.Need-array-share-prefix-cares
 array-share-prefix-cares c = room-cares _ _ _ _ _ (read-held _ _ _ _ _ _ _ _ _ (c .before .before .before .before .before .before .before .before .before .before .before .read .ensures) _ (c .before .before .before .before .before .before .n2 .given .1))
@@ -112,6 +115,7 @@ compare-with-spec =
     shared-slice-read-wide
     wide-requires
     cast-width
+    mul-halves
     array-share-prefix-cares
     slice-aggregate-compare
     array-share-prefix-values

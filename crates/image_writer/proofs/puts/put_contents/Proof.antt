@@ -1,10 +1,11 @@
+use Rattle.image.specs.Formats.{ruleSize}
 use mathlib.Core.Path.{_≡_, refl, sym, _∙_}
 use Prim.Native.Nat.{_+_, _-_, _*_, _≤_}
 use native.Mathlib.Omega.{arith}
 use lib.ListN.{length, drop}
 use denote.Ref.{now}
 use Rattle.image_writer.proofs.PutLaws.{entries-put, entries-put-end}
-use Rattle.image_writer.proofs.GivenLaws.{sum-turn}
+use Rattle.image_writer.proofs.GivenLaws.{size-turn}
 use Rattle.image.specs.Images.{contentsBytes}
 use Rattle.image_writer.specs.Writing.{sumOf}
 use Rattle.image_writer.specs.Putting.{over, entriesGiven}
@@ -13,17 +14,18 @@ use Rattle.image_writer.proofs.puts.put_contents.Statement.{statement}
 use Rattle.image_writer.proofs.puts.put_contents.Tie as tie
 use Rattle.image_writer.proofs.puts.put_contents.Reads as reads
 use Rattle.image_writer.proofs.puts.put_contents.Lts as lts
+use Rattle.image_writer.proofs.formats.body_size.Reads as body-size-reads
 use Rattle.image_writer.proofs.puts.wide16.Reads as wide16-reads
 use Rattle.image_writer.proofs.puts.put_entry.Reads as put-entry-reads
 
 abbrev Inv-loop : tie.InvT-loop
-Inv-loop out₀ ids counts i₀ at₀ next₀ out i at next =
-    (length out ≡ length out₀) × (i ≤ length ids) × (at ≡ 4 + 8 * i) × (next + 18 * sumOf (drop i counts) ≤ 65536)
-    × (over out at (contentsBytes (entriesGiven next (drop i ids) (drop i counts)))
-    ≡ over out₀ 4 (contentsBytes (entriesGiven (4 + 8 * length ids) ids counts)))
+Inv-loop out₀ format ids counts i₀ at₀ next₀ out i at next =
+    (length out ≡ length out₀) × (i ≤ length ids) × (at ≡ 4 + 8 * i) × (next + ruleSize format * sumOf (drop i counts) ≤ 65536)
+    × (over out at (contentsBytes (entriesGiven format next (drop i ids) (drop i counts)))
+    ≡ over out₀ 4 (contentsBytes (entriesGiven format (4 + 8 * length ids) ids counts)))
 
 abbrev μ-loop : tie.MeasureT-loop
-μ-loop out₀ ids counts i₀ at₀ next₀ out i at next = length ids - i
+μ-loop out₀ format ids counts i₀ at₀ next₀ out i at next = length ids - i
 
 mul-next : tie.Need-mul-next Inv-loop μ-loop
 mul-next c = search needs
@@ -55,11 +57,14 @@ wide16-requires-2 c κs = search needs
 put-entry-requires : tie.Need-put-entry-requires Inv-loop μ-loop
 put-entry-requires c κs = search needs
 
-mul-next-2 : tie.Need-mul-next-2 Inv-loop μ-loop
-mul-next-2 c = omega arith
+body-size-requires : tie.Need-body-size-requires Inv-loop μ-loop
+body-size-requires c κs = search needs
 
 add-next-2 : tie.Need-add-next-2 Inv-loop μ-loop
-add-next-2 c = omega (arith, sum-turn (now (c .before .before .before .before .before .before .before .before .before .before .before .before .before .args .counts)) (c .before .before .before .before .before .before .before .before .before .loop .i) (omega arith), c .before .before .before .before .before .before .wide16 .ensures .0)
+add-next-2 c =
+    let o = c .before .before .before .before .before .before .before .before .before .before .loop in
+    let a = c .before .before .before .before .before .before .before .before .before .before .before .before .before .before .args in
+    omega (arith, size-turn (a .format) (now (a .counts)) (o .i) _ (omega arith) (c .before .before .before .before .before .before .before .wide16 .ensures .0))
 
 add-at : tie.Need-add-at Inv-loop μ-loop
 add-at c = search needs
@@ -72,16 +77,16 @@ loop-less c = search needs
 
 loop-again : tie.Need-loop-again Inv-loop μ-loop
 loop-again c =
-    let o = c .before .before .before .before .before .before .before .before .before .loop in
-    let a = c .before .before .before .before .before .before .before .before .before .before .before .before .before .args in
+    let o = c .before .before .before .before .before .before .before .before .before .before .loop in
+    let a = c .before .before .before .before .before .before .before .before .before .before .before .before .before .before .args in
     let n = now (a .counts) in
-    let l : length n ≡ length (now (a .ids)) = c .before .before .before .before .before .before .before .before .before .before .before .before .before .pre .0 in
-    let s = sum-turn n (o .i) (omega arith) in (
-      c .before .before .put-entry .kept .0 ∙ o .inv .0,
+    let l : length n ≡ length (now (a .ids)) = c .before .before .before .before .before .before .before .before .before .before .before .before .before .before .pre .0 in
+    let s = size-turn (a .format) n (o .i) _ (omega arith) (c .before .before .before .before .before .before .before .wide16 .ensures .0) in (
+      c .before .before .before .put-entry .kept .0 ∙ o .inv .0,
       omega arith,
       omega arith,
-      omega (arith, s, c .before .before .before .before .before .before .wide16 .ensures .0),
-      sym (entries-put (o .out) _ (now (a .ids)) n (o .i) (o .at) (o .next) _ _ (omega arith) l (omega arith) (c .before .before .before .before .before .before .wide16 .ensures .0) (c .before .before .before .wide162 .ensures .0) (c .before .before .put-entry .ensures)) ∙ o .inv .4,
+      omega (arith, s, c .body-size .ensures .0),
+      sym (entries-put (a .format) (o .out) _ (now (a .ids)) n (o .i) (o .at) (o .next) _ _ _ (omega arith) l (omega arith) (c .before .before .before .before .before .before .before .wide16 .ensures .0) (c .before .before .before .before .wide162 .ensures .0) (c .before .before .before .put-entry .ensures) (c .body-size .ensures .0)) ∙ o .inv .4,
     )
 
 same-length : tie.Need-same-length Inv-loop μ-loop
@@ -90,7 +95,7 @@ same-length c = c .before .loop .inv .0
 returns : tie.Need-returns Inv-loop μ-loop
 returns c =
     let o = c .before .loop in
-    sym (entries-put-end (o .out) _ _ (o .i) (o .at) (o .next) (omega arith)) ∙ o .inv .4
+    sym (entries-put-end _ (o .out) _ _ (o .i) (o .at) (o .next) (omega arith)) ∙ o .inv .4
 
 pub put-contents-spec : {M : Type 1} → statement M
 put-contents-spec =
@@ -108,7 +113,7 @@ put-contents-spec =
     shared-slice-read-wide16-2
     wide16-requires-2
     put-entry-requires
-    mul-next-2
+    body-size-requires
     add-next-2
     add-at
     add-i

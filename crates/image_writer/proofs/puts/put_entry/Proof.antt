@@ -1,4 +1,5 @@
 use Prim.Native.Nat.{_-_}
+use mathlib.Core.Path.{refl}
 use denote.Ref.{now}
 use Rattle.image_writer.proofs.PutLaws.{put-three}
 use borrow.Author.Needs.{needs}
@@ -28,7 +29,7 @@ same-length : tie.Need-same-length
 same-length c = search needs
 
 returns : tie.Need-returns
-returns c = put-three 4 2 2 (now (c .before .before .before .before .before .before .before .before .before .before .before .before .before .args .out)) _ _ _ (c .before .before .before .before .before .before .before .before .before .before .before .before .before .args .at) _ _ _ (c .before .before .before .before .before .before .before .before .before .before .before .before .before .pre) (c .before .before .before .before .before .before .before .before .before .before .put32 .ensures) (c .before .before .before .before .before .before .put16 .ensures) (c .before .before .put162 .ensures)
+returns c = put-three 4 2 2 (now (c .before .before .before .before .before .before .before .before .before .before .before .before .before .args .out)) _ _ _ (c .before .before .before .before .before .before .before .before .before .before .before .before .before .args .at) _ _ _ _ _ (c .before .before .before .before .before .before .before .before .before .before .before .before .before .pre) refl refl (c .before .before .before .before .before .before .before .before .before .before .put32 .ensures) (c .before .before .before .before .before .before .put16 .ensures) (c .before .before .put162 .ensures)
 
 pub put-entry-spec : {M : Type 1} → statement M
 put-entry-spec =

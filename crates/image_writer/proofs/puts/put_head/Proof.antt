@@ -31,7 +31,7 @@ same-length : tie.Need-same-length
 same-length c = search needs
 
 returns : tie.Need-returns
-returns c = put-four (now (c .args .out)) _ _ (c .pre .0)
+returns c = put-four (now (c .args .out)) _ _ _ (c .pre .0)
 
 pub put-head-spec : {M : Type 1} → statement M
 put-head-spec =

@@ -21,6 +21,9 @@ refused-requires-2 c κs = search needs
 returns-2 : tie.Need-returns-2
 returns-2 c = c .refused2 .ensures ∙ given-values _ _ _ _ _ (c .before .before .if1 .left) (c .before .if2 .taken)
 
+mul-if3 : tie.Need-mul-if3
+mul-if3 c = search needs
+
 refused-requires-3 : tie.Need-refused-requires-3
 refused-requires-3 c κs = search needs
 
@@ -47,6 +50,7 @@ given-verdict-spec =
     returns
     refused-requires-2
     returns-2
+    mul-if3
     refused-requires-3
     returns-3
     adds-up-requires

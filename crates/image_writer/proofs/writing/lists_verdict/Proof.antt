@@ -1,5 +1,5 @@
 use mathlib.Core.Path.{_≡_, refl, sym, _∙_}
-use Prim.Native.Nat.{_+_, _-_, _≤_}
+use Prim.Native.Nat.{_+_, _-_, _*_, _≤_}
 use native.Mathlib.Omega.{arith}
 use lib.ListN.{length, drop}
 use denote.Ref.{now}
@@ -18,7 +18,7 @@ use Rattle.rules.proofs.check_list_as.Reads as check-list-as-reads
 
 abbrev Inv-loop : tie.InvT-loop
 Inv-loop width ids counts care value decision from₀ i₀ from i =
-    (i ≤ length ids) × (from + sumOf (drop i counts) ≡ length care)
+    (i ≤ length ids) × (from + sumOf (drop i counts) ≡ length decision)
     × (listsCheck width 1 (cut ids counts (rulesOf care value decision)) ≡ listsCheck width (i + 1) (cut (drop i ids) (drop i counts) (drop from (rulesOf care value decision))))
 
 abbrev μ-loop : tie.MeasureT-loop
@@ -37,7 +37,13 @@ wide16-requires : tie.Need-wide16-requires Inv-loop μ-loop
 wide16-requires c κs = search needs
 
 add-end : tie.Need-add-end Inv-loop μ-loop
-add-end c = search needs
+add-end c = omega (arith, c .before .before .before .loop .inv .1, sum-turn (now (c .before .before .before .before .before .before .before .before .before .args .counts)) (c .before .before .before .loop .i) (omega arith), c .wide16 .ensures .0, c .before .before .before .before .before .before .before .before .before .pre .4 .decisions, c .before .before .before .before .before .before .before .before .before .pre .4 .values)
+
+mul-first : tie.Need-mul-first Inv-loop μ-loop
+mul-first c = omega (arith, c .before .before .before .loop .inv .1, sum-turn (now (c .before .before .before .before .before .before .before .before .before .args .counts)) (c .before .before .before .loop .i) (omega arith), c .wide16 .ensures .0, c .before .before .before .before .before .before .before .before .before .pre .4 .decisions, c .before .before .before .before .before .before .before .before .before .pre .4 .values)
+
+mul-last : tie.Need-mul-last Inv-loop μ-loop
+mul-last c = omega (arith, c .before .before .before .loop .inv .1, sum-turn (now (c .before .before .before .before .before .before .before .before .before .args .counts)) (c .before .before .before .loop .i) (omega arith), c .wide16 .ensures .0, c .before .before .before .before .before .before .before .before .before .pre .4 .decisions, c .before .before .before .before .before .before .before .before .before .pre .4 .values)
 
 add-check-list-as : tie.Need-add-check-list-as Inv-loop μ-loop
 add-check-list-as c = search needs
@@ -52,7 +58,7 @@ part-check-list-as-start : tie.Need-part-check-list-as-start Inv-loop μ-loop
 part-check-list-as-start c = search needs
 
 part-check-list-as-end : tie.Need-part-check-list-as-end Inv-loop μ-loop
-part-check-list-as-end c = omega (arith, c .before .before .before .loop .inv .1, sum-turn (now (c .before .before .before .before .before .before .before .before .before .args .counts)) (c .before .before .before .loop .i) (omega arith), c .wide16 .ensures .0)
+part-check-list-as-end c = omega (arith, c .before .before .before .loop .inv .1, sum-turn (now (c .before .before .before .before .before .before .before .before .before .args .counts)) (c .before .before .before .loop .i) (omega arith), c .wide16 .ensures .0, c .before .before .before .before .before .before .before .before .before .pre .4 .decisions, c .before .before .before .before .before .before .before .before .before .pre .4 .values)
 
 mul-check-list-as-2 : tie.Need-mul-check-list-as-2 Inv-loop μ-loop
 mul-check-list-as-2 c = search needs
@@ -64,7 +70,7 @@ part-check-list-as-start-2 : tie.Need-part-check-list-as-start-2 Inv-loop μ-loo
 part-check-list-as-start-2 c = search needs
 
 part-check-list-as-end-2 : tie.Need-part-check-list-as-end-2 Inv-loop μ-loop
-part-check-list-as-end-2 c = omega (arith, c .before .before .before .before .loop .inv .1, sum-turn (now (c .before .before .before .before .before .before .before .before .before .before .args .counts)) (c .before .before .before .before .loop .i) (omega arith), c .before .wide16 .ensures .0)
+part-check-list-as-end-2 c = omega (arith, c .before .before .before .before .loop .inv .1, sum-turn (now (c .before .before .before .before .before .before .before .before .before .before .args .counts)) (c .before .before .before .before .loop .i) (omega arith), c .before .wide16 .ensures .0, c .before .before .before .before .before .before .before .before .before .before .pre .4 .decisions, c .before .before .before .before .before .before .before .before .before .before .pre .4 .values)
 
 mul-check-list-as-3 : tie.Need-mul-check-list-as-3 Inv-loop μ-loop
 mul-check-list-as-3 c = search needs
@@ -76,7 +82,7 @@ part-check-list-as-start-3 : tie.Need-part-check-list-as-start-3 Inv-loop μ-loo
 part-check-list-as-start-3 c = search needs
 
 part-check-list-as-end-3 : tie.Need-part-check-list-as-end-3 Inv-loop μ-loop
-part-check-list-as-end-3 c = omega (arith, c .before .before .before .before .before .loop .inv .1, sum-turn (now (c .before .before .before .before .before .before .before .before .before .before .before .args .counts)) (c .before .before .before .before .before .loop .i) (omega arith), c .before .before .wide16 .ensures .0)
+part-check-list-as-end-3 c = omega (arith, c .before .before .before .before .before .loop .inv .1, sum-turn (now (c .before .before .before .before .before .before .before .before .before .before .before .args .counts)) (c .before .before .before .before .before .loop .i) (omega arith), c .before .before .wide16 .ensures .0, c .before .before .before .before .before .before .before .before .before .before .before .pre .4 .decisions, c .before .before .before .before .before .before .before .before .before .before .before .pre .4 .values)
 
 check-list-as-requires : tie.Need-check-list-as-requires Inv-loop μ-loop
 check-list-as-requires c κs = search needs
@@ -96,8 +102,8 @@ returns c =
     let s = sum-turn n (o .i) (omega arith) in
     let small = names-small 1 0 (now (a .ids)) n (o .i) l (c .before .before .before .before .before .before .before .before .before .before .before .before .before .before .before .pre .5) in
     let k = c .before .before .before .before .before .before .wide16 .result in
-    sym (o .inv .2 ∙ cut-stop _ (o .i) (o .from) k (o .from + k) (now (a .ids)) n (now (a .care)) (now (a .value)) (now (a .decision)) (omega arith) l (c .before .before .before .before .before .before .wide16 .ensures .0) (c .before .before .before .before .before .before .before .before .before .before .before .before .before .before .before .pre .0) (c .before .before .before .before .before .before .before .before .before .before .before .before .before .before .before .pre .1) (c .before .before .before .before .before .before .before .before .before .before .before .before .before .before .before .pre .4)
-    (omega (arith, o .inv .1, s, c .before .before .before .before .before .before .wide16 .ensures .0)) (omega (arith, small, c .before .before .before .before .before .before .wide16 .ensures .0)) (add-sub-cancel-left (o .from) k) _ (c .before .before .check-list-as .ensures) (c .enum-told2 .given .1))
+    sym (o .inv .2 ∙ cut-stop _ (o .i) (o .from) k (o .from + k) (o .from * 2) ((o .from + k) * 2) (now (a .ids)) n (now (a .care)) (now (a .value)) (now (a .decision)) (omega arith) l (c .before .before .before .before .before .before .wide16 .ensures .0) (c .before .before .before .before .before .before .before .before .before .before .before .before .before .before .before .pre .0) (c .before .before .before .before .before .before .before .before .before .before .before .before .before .before .before .pre .1) (c .before .before .before .before .before .before .before .before .before .before .before .before .before .before .before .pre .4)
+    (omega (arith, o .inv .1, s, c .before .before .before .before .before .before .wide16 .ensures .0)) (omega (arith, small, c .before .before .before .before .before .before .wide16 .ensures .0)) (add-sub-cancel-left (o .from) k) refl (omega arith) _ (c .before .before .check-list-as .ensures) (c .enum-told2 .given .1))
 
 add-i : tie.Need-add-i Inv-loop μ-loop
 add-i c = search needs
@@ -116,8 +122,8 @@ loop-again c =
     let k = c .before .before .before .before .before .before .wide16 .result in (
       omega arith,
       omega (arith, o .inv .1, s, c .before .before .before .before .before .before .wide16 .ensures .0),
-      o .inv .2 ∙ cut-pass _ (o .i) (o .from) k (o .from + k) (now (a .ids)) n (now (a .care)) (now (a .value)) (now (a .decision)) (omega arith) l (c .before .before .before .before .before .before .wide16 .ensures .0) (c .before .before .before .before .before .before .before .before .before .before .before .before .before .before .before .pre .0) (c .before .before .before .before .before .before .before .before .before .before .before .before .before .before .before .pre .1) (c .before .before .before .before .before .before .before .before .before .before .before .before .before .before .before .pre .4)
-          (omega (arith, o .inv .1, s, c .before .before .before .before .before .before .wide16 .ensures .0)) (omega (arith, small, c .before .before .before .before .before .before .wide16 .ensures .0)) (add-sub-cancel-left (o .from) k) _ (c .before .before .check-list-as .ensures) refl (c .enum-told .given .1),
+      o .inv .2 ∙ cut-pass _ (o .i) (o .from) k (o .from + k) (o .from * 2) ((o .from + k) * 2) (now (a .ids)) n (now (a .care)) (now (a .value)) (now (a .decision)) (omega arith) l (c .before .before .before .before .before .before .wide16 .ensures .0) (c .before .before .before .before .before .before .before .before .before .before .before .before .before .before .before .pre .0) (c .before .before .before .before .before .before .before .before .before .before .before .before .before .before .before .pre .1) (c .before .before .before .before .before .before .before .before .before .before .before .before .before .before .before .pre .4)
+          (omega (arith, o .inv .1, s, c .before .before .before .before .before .before .wide16 .ensures .0)) (omega (arith, small, c .before .before .before .before .before .before .wide16 .ensures .0)) (add-sub-cancel-left (o .from) k) refl (omega arith) _ (c .before .before .check-list-as .ensures) refl (c .enum-told .given .1),
     )
 
 returns-2 : tie.Need-returns-2 Inv-loop μ-loop
@@ -134,6 +140,8 @@ lists-verdict-spec =
     shared-slice-read-wide16
     wide16-requires
     add-end
+    mul-first
+    mul-last
     add-check-list-as
     mul-check-list-as
     sub-check-list-as

@@ -1,4 +1,6 @@
 use Rattle.rules.proofs.FoundLaws.{looked-sound, looked-six, looked-hit, looked-miss}
+use Rattle.words.specs.Halves.{num}
+use Rattle.rules.proofs.SliceLaws.{told}
 use Rattle.rules.proofs.ReplyLaws.{refused-stop}
 use Rattle.rules.specs.Calls.{lookedUp}
 use mathlib.Core.Path.{sym}
@@ -9,7 +11,7 @@ use Rattle.rules.proofs.lookups.lookup_number.Reads as reads
 use Rattle.rules.proofs.lookups.lookup_number.Lts as lts
 use Rattle.rules.proofs.checks.check_list.Reads as check-list-reads
 use Rattle.rules.proofs.lookups.first_match.Reads as first-match-reads
-use Rattle.rules.proofs.patterns.below.Reads as below-reads
+use Rattle.words.proofs.below.Reads as below-reads
 use Rattle.rules.proofs.slices.rule_at.Reads as rule-at-reads
 
 check-list-requires : tie.Need-check-list-requires
@@ -26,10 +28,10 @@ enum-told : tie.Need-enum-told
 enum-told c = search needs
 
 below-requires : tie.Need-below-requires
-below-requires c κs = looked-sound _ _ _ _ (c .before .before .before .before .before .before .args .header) _ (c .before .before .check-list .ensures) (c .enum-told .given .1) .most
+below-requires c κs = search needs
 
 first-match-requires : tie.Need-first-match-requires
-first-match-requires c κs = looked-sound _ _ _ _ (c .before .before .before .before .before .before .before .before .args .header) _ (c .before .before .before .before .check-list .ensures) (c .before .before .enum-told .given .1) .lent
+first-match-requires c κs = looked-sound _ _ _ _ (num (c .before .before .before .before .before .before .before .before .args .header)) _ (c .before .before .before .before .check-list .ensures) (c .before .before .enum-told .given .1) .lent
 
 enum-known-i : tie.Need-enum-known-i
 enum-known-i c = search needs
@@ -44,7 +46,7 @@ rule-at-requires : tie.Need-rule-at-requires
 rule-at-requires c κs = search needs
 
 returns-3 : tie.Need-returns-3
-returns-3 c = looked-hit _ _ _ _ _ _ (c .before .before .before .before .before .before .before .before .before .check-list .ensures) (c .before .before .before .before .before .before .before .enum-told .given .1) _ (c .before .before .before .before .before .before .below .ensures) (c .before .before .before .before .before .if1 .taken) _ _ _ (c .before .before .before .before .first-match .ensures) (c .before .before .i .given .1) (c .rule-at .ensures)
+returns-3 c = looked-hit _ _ _ _ _ _ (c .before .before .before .before .before .before .before .before .before .check-list .ensures) (c .before .before .before .before .before .before .before .enum-told .given .1) _ (c .before .before .before .before .before .before .below .ensures) (c .before .before .before .before .before .if1 .taken) _ _ _ (c .before .before .before .before .first-match .ensures) (c .before .before .i .given .1) (told (c .rule-at .ensures))
 
 returns-4 : tie.Need-returns-4
 returns-4 c = sym (looked-six _ _ _ _ _ _ (c .before .before .before .before .check-list .ensures) (c .before .before .enum-told .given .1) _ (c .before .below .ensures) (c .if1 .left))

@@ -1,6 +1,5 @@
 use Rattle.text.specs.Numbers.{digitOf}
 use borrow.Author.Tests.{lt-ltb, le-ltb}
-use native.Mathlib.Omega.{arith}
 use borrow.Author.Needs.{needs}
 use Rattle.text.proofs.numbers.digit.Statement.{statement}
 use Rattle.text.proofs.numbers.digit.Tie as tie
@@ -9,37 +8,37 @@ use Rattle.text.proofs.numbers.digit.Lts as lts
 
 returns : tie.Need-returns
 unfolding digitOf
-returns c = (simp (lt-ltb _ _ (c .if1 .taken)), omega arith)
+returns c = simp (lt-ltb _ _ (c .if1 .taken))
 
 returns-2 : tie.Need-returns-2
 unfolding digitOf
-returns-2 c = (simp (lt-ltb _ _ (c .if2 .taken), le-ltb _ _ (c .before .if1 .left)), omega arith)
+returns-2 c = simp (lt-ltb _ _ (c .if2 .taken), le-ltb _ _ (c .before .if1 .left))
 
 returns-3 : tie.Need-returns-3
 unfolding digitOf
-returns-3 c = (simp (lt-ltb _ _ (c .if3 .taken), le-ltb _ _ (c .before .before .if1 .left), le-ltb _ _ (c .before .if2 .left)), omega arith)
+returns-3 c = simp (lt-ltb _ _ (c .if3 .taken), le-ltb _ _ (c .before .before .if1 .left), le-ltb _ _ (c .before .if2 .left))
 
 sub-result : tie.Need-sub-result
 sub-result c = search needs
 
 returns-4 : tie.Need-returns-4
 unfolding digitOf
-returns-4 c = (simp (lt-ltb _ _ (c .if4 .taken), le-ltb _ _ (c .before .before .before .if1 .left), le-ltb _ _ (c .before .before .if2 .left), le-ltb _ _ (c .before .if3 .left)), omega arith)
+returns-4 c = simp (lt-ltb _ _ (c .if4 .taken), le-ltb _ _ (c .before .before .before .if1 .left), le-ltb _ _ (c .before .before .if2 .left), le-ltb _ _ (c .before .if3 .left))
 
 returns-5 : tie.Need-returns-5
 unfolding digitOf
-returns-5 c = (simp (lt-ltb _ _ (c .if5 .taken), le-ltb _ _ (c .before .before .before .before .if1 .left), le-ltb _ _ (c .before .before .before .if2 .left), le-ltb _ _ (c .before .before .if3 .left), le-ltb _ _ (c .before .if4 .left)), omega arith)
+returns-5 c = simp (lt-ltb _ _ (c .if5 .taken), le-ltb _ _ (c .before .before .before .before .if1 .left), le-ltb _ _ (c .before .before .before .if2 .left), le-ltb _ _ (c .before .before .if3 .left), le-ltb _ _ (c .before .if4 .left))
 
 sub-result-2 : tie.Need-sub-result-2
 sub-result-2 c = search needs
 
 returns-6 : tie.Need-returns-6
 unfolding digitOf
-returns-6 c = (simp (lt-ltb _ _ (c .if6 .taken), le-ltb _ _ (c .before .before .before .before .before .if1 .left), le-ltb _ _ (c .before .before .before .before .if2 .left), le-ltb _ _ (c .before .before .before .if3 .left), le-ltb _ _ (c .before .before .if4 .left), le-ltb _ _ (c .before .if5 .left)), omega arith)
+returns-6 c = simp (lt-ltb _ _ (c .if6 .taken), le-ltb _ _ (c .before .before .before .before .before .if1 .left), le-ltb _ _ (c .before .before .before .before .if2 .left), le-ltb _ _ (c .before .before .before .if3 .left), le-ltb _ _ (c .before .before .if4 .left), le-ltb _ _ (c .before .if5 .left))
 
 returns-7 : tie.Need-returns-7
 unfolding digitOf
-returns-7 c = (simp (le-ltb _ _ (c .before .before .before .before .before .if1 .left), le-ltb _ _ (c .before .before .before .before .if2 .left), le-ltb _ _ (c .before .before .before .if3 .left), le-ltb _ _ (c .before .before .if4 .left), le-ltb _ _ (c .before .if5 .left), le-ltb _ _ (c .if6 .left)), omega arith)
+returns-7 c = simp (le-ltb _ _ (c .before .before .before .before .before .if1 .left), le-ltb _ _ (c .before .before .before .before .if2 .left), le-ltb _ _ (c .before .before .before .if3 .left), le-ltb _ _ (c .before .before .if4 .left), le-ltb _ _ (c .before .if5 .left), le-ltb _ _ (c .if6 .left))
 
 pub digit-spec : {M : Type 1} → statement M
 digit-spec =

@@ -1,4 +1,4 @@
-use Rattle.rules.proofs.Tests.{and-on, and-off}
+use Rattle.words.proofs.Tests.{and-on, and-off}
 use Rattle.text.specs.Numbers.{marked}
 use borrow.Author.Tests.{eq-eqb, ne-eqb, lt-ltb, le-ltb}
 use mathlib.Core.Path.{_∙_}

@@ -1,6 +1,5 @@
-use Rattle.text.proofs.NumberLaws.{marked-long, number-hex, number-empty, number-decimal}
+use Rattle.text.proofs.NumberLaws.{number-hex, number-empty, number-decimal}
 use borrow.Author.Tests.{eq-eqb, ne-eqb}
-use native.Mathlib.Omega.{arith}
 use mathlib.Core.Path.{sym, _∙_}
 use borrow.Author.Needs.{needs}
 use Rattle.text.proofs.numbers.read_number.Statement.{statement}
@@ -14,7 +13,7 @@ marked-requires : tie.Need-marked-requires
 marked-requires c κs = search needs
 
 digits-from-requires : tie.Need-digits-from-requires
-digits-from-requires c κs = (omega (arith, marked-long _ (sym (c .before .marked .ensures) ∙ c .if1 .taken)), omega arith, omega arith)
+digits-from-requires c κs = search needs
 
 returns : tie.Need-returns
 returns c = c .digits-from .ensures ∙ sym (number-hex _ _ (sym (c .before .before .marked .ensures) ∙ c .before .if1 .taken))

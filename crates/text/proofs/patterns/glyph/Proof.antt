@@ -1,47 +1,42 @@
 use Rattle.text.proofs.PatternLaws.{glyph-star, glyph-value}
+use Prim.Native.Nat.{ℕ, _+_}
+use mathlib.Core.Path.{sym, ap, _∙_}
 use borrow.Author.Needs.{needs}
 use Rattle.text.proofs.patterns.glyph.Statement.{statement}
 use Rattle.text.proofs.patterns.glyph.Tie as tie
 use Rattle.text.proofs.patterns.glyph.Reads as reads
 use Rattle.text.proofs.patterns.glyph.Lts as lts
+use Rattle.words.proofs.bit_at.Reads as bit-at-reads
 
-sub-shift : tie.Need-sub-shift
-sub-shift c = search needs
+sub-weight : tie.Need-sub-weight
+sub-weight c = search needs
 
-cast-if1 : tie.Need-cast-if1
-cast-if1 c = search needs
-
-shr-if1 : tie.Need-shr-if1
-shr-if1 c = search needs
+bit-at-requires : tie.Need-bit-at-requires
+bit-at-requires c κs = search needs
 
 returns : tie.Need-returns
-returns c = glyph-star _ _ _ (c .if1 .taken)
+returns c = glyph-star _ _ _ (sym (c .before .bit-at .ensures) ∙ c .if1 .taken)
 
-cast-result : tie.Need-cast-result
-cast-result c = search needs
-
-shr-result : tie.Need-shr-result
-shr-result c = search needs
+bit-at-requires-2 : tie.Need-bit-at-requires-2
+bit-at-requires-2 c κs = search needs
 
 add-result : tie.Need-add-result
 add-result c = search needs
 
-cast-result-2 : tie.Need-cast-result-2
-cast-result-2 c = search needs
+cast-result : tie.Need-cast-result
+cast-result c = search needs
 
 returns-2 : tie.Need-returns-2
-returns-2 c = glyph-value _ _ _ (c .before .if1 .left)
+returns-2 c = ap (λ (x : ℕ). 48 + x) (c .bit-at2 .ensures) ∙ glyph-value _ _ _ (λ e. c .before .if1 .left (c .before .before .bit-at .ensures ∙ e))
 
 pub glyph-spec : {M : Type 1} → statement M
 glyph-spec =
     tie.close
     (tie.spec
-    sub-shift
-    cast-if1
-    shr-if1
+    sub-weight
+    bit-at-requires
     returns
-    cast-result
-    shr-result
+    bit-at-requires-2
     add-result
-    cast-result-2
+    cast-result
     returns-2)

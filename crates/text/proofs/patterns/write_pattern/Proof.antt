@@ -1,11 +1,12 @@
 use Rattle.text.proofs.PatternLaws.{text-none, text-more, over-wide, too-short, all-places}
 use Rattle.text.specs.Patterns.{placesText}
-use lib.ListN.{length, drop, set, length-set}
-use mathlib.Core.List.{List, _++_}
-use Prim.Native.Nat.{ℕ, _+_, _-_, _≤_}
+use Rattle.rules.specs.Rule.{ruleOf}
+use lib.ListN.{length, drop, length-set}
+use mathlib.Core.List.{_++_}
+use Prim.Native.Nat.{_-_, _≤_}
 use borrow.Author.Needs.{needs}
 use native.Mathlib.Omega.{arith}
-use mathlib.Core.Path.{_≡_, refl, ap, _∙_}
+use mathlib.Core.Path.{_≡_, refl, _∙_}
 use Rattle.text.proofs.patterns.write_pattern.Statement.{statement}
 use Rattle.text.proofs.patterns.write_pattern.Tie as tie
 use Rattle.text.proofs.patterns.write_pattern.Reads as reads
@@ -14,7 +15,7 @@ use Rattle.text.proofs.patterns.glyph.Reads as glyph-reads
 
 abbrev Inv-loop : tie.InvT-loop
 Inv-loop width rule out₀ k₀ out k =
-    (k ≤ width) × (length out ≡ length out₀) × (out ≡ placesText width rule k ++ drop k out₀)
+    (k ≤ width) × (length out ≡ length out₀) × (out ≡ placesText width (ruleOf rule) k ++ drop k out₀)
 
 abbrev μ-loop : tie.MeasureT-loop
 μ-loop width rule out₀ k₀ out k = width - k
@@ -51,14 +52,14 @@ loop-again c =
     let o = c .before .before .loop in (
       omega arith,
       length-set (o .out) (o .k) (c .glyph .result) ∙ o .inv .1,
-      ap (λ (l : List ℕ). set l (o .k) (c .glyph .result)) (o .inv .2) ∙ text-more _ _ (o .k) _ _ (omega arith) (c .glyph .ensures),
+      text-more _ _ (o .k) _ _ _ (omega arith) (c .glyph .ensures) (o .inv .2),
     )
 
 same-length : tie.Need-same-length Inv-loop μ-loop
 same-length c = c .before .loop .inv .1
 
 returns-3 : tie.Need-returns-3 Inv-loop μ-loop
-returns-3 c = all-places _ (c .before .loop .k) _ _ _ (c .before .before .before .if1 .left) (c .before .before .if2 .left) (c .before .loop .inv .0) (c .loop-test .left) (c .before .loop .inv .2)
+returns-3 c = all-places _ _ _ (c .before .loop .k) _ (c .before .before .before .if1 .left) (c .before .before .if2 .left) (omega arith) (c .before .loop .inv .2)
 
 pub write-pattern-spec : {M : Type 1} → statement M
 write-pattern-spec =

@@ -5,7 +5,7 @@ use Rattle.tool.proofs.questions.show_sizes.Tie as tie
 use Rattle.tool.proofs.questions.show_sizes.Reads as reads
 use Rattle.tool.proofs.questions.show_sizes.Lts as lts
 use Rattle.tool.proofs.lines.named.Reads as named-reads
-use Rattle.tool.proofs.slices.half_at.Reads as half-at-reads
+use Rattle.tool.proofs.slices.wide_at.Reads as wide-at-reads
 
 abbrev Inv-loop : tie.InvT-loop
 Inv-loop sizes count left₀ t4 left = left ≤ count
@@ -19,11 +19,11 @@ loop-holds c = search needs
 slice-aggregate-named : tie.Need-slice-aggregate-named Inv-loop μ-loop
 slice-aggregate-named c = search needs
 
-sub-half-at : tie.Need-sub-half-at Inv-loop μ-loop
-sub-half-at c = search needs
+sub-wide-at : tie.Need-sub-wide-at Inv-loop μ-loop
+sub-wide-at c = search needs
 
-half-at-requires : tie.Need-half-at-requires Inv-loop μ-loop
-half-at-requires c κs = search needs
+wide-at-requires : tie.Need-wide-at-requires Inv-loop μ-loop
+wide-at-requires c κs = search needs
 
 named-requires : tie.Need-named-requires Inv-loop μ-loop
 named-requires c κs = search needs
@@ -48,8 +48,8 @@ show-sizes-spec =
     μ-loop
     loop-holds
     slice-aggregate-named
-    sub-half-at
-    half-at-requires
+    sub-wide-at
+    wide-at-requires
     named-requires
     sub-left
     loop-less

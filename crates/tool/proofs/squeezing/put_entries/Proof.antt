@@ -7,7 +7,7 @@ use Rattle.tool.proofs.squeezing.put_entries.Tie as tie
 use Rattle.tool.proofs.squeezing.put_entries.Reads as reads
 use Rattle.tool.proofs.squeezing.put_entries.Lts as lts
 use Rattle.image.proofs.entry.Reads as entry-reads
-use Rattle.tool.proofs.slices.put_half.Reads as put-half-reads
+use Rattle.tool.proofs.slices.put_short.Reads as put-short-reads
 use Rattle.tool.proofs.squeezing.short.Reads as short-reads
 
 abbrev Inv-loop : tie.InvT-loop
@@ -32,14 +32,14 @@ entry-requires c κs = search needs
 enum-known-e : tie.Need-enum-known-e Inv-loop μ-loop
 enum-known-e c = search needs
 
-put-half-requires : tie.Need-put-half-requires Inv-loop μ-loop
-put-half-requires c κs = search needs
+put-short-requires : tie.Need-put-short-requires Inv-loop μ-loop
+put-short-requires c κs = search needs
 
 short-requires : tie.Need-short-requires Inv-loop μ-loop
 short-requires c κs = search needs
 
-put-half-requires-2 : tie.Need-put-half-requires-2 Inv-loop μ-loop
-put-half-requires-2 c κs = search needs
+put-short-requires-2 : tie.Need-put-short-requires-2 Inv-loop μ-loop
+put-short-requires-2 c κs = search needs
 
 enum-known-e-2 : tie.Need-enum-known-e-2 Inv-loop μ-loop
 enum-known-e-2 c = search needs
@@ -82,9 +82,9 @@ put-entries-spec =
     add-entry
     entry-requires
     enum-known-e
-    put-half-requires
+    put-short-requires
     short-requires
-    put-half-requires-2
+    put-short-requires-2
     enum-known-e-2
     same-length
     same-length-2

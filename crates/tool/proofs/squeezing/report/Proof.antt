@@ -4,7 +4,7 @@ use Rattle.tool.proofs.squeezing.report.Statement.{statement}
 use Rattle.tool.proofs.squeezing.report.Tie as tie
 use Rattle.tool.proofs.squeezing.report.Reads as reads
 use Rattle.tool.proofs.squeezing.report.Lts as lts
-use Rattle.tool.proofs.slices.half_at.Reads as half-at-reads
+use Rattle.tool.proofs.slices.wide_at.Reads as wide-at-reads
 use Rattle.tool.proofs.squeezing.report_list.Reads as report-list-reads
 
 abbrev Inv-loop : tie.InvT-loop
@@ -19,20 +19,20 @@ loop-holds c = search needs
 sub-i : tie.Need-sub-i Inv-loop μ-loop
 sub-i c = search needs
 
-half-at-requires : tie.Need-half-at-requires Inv-loop μ-loop
-half-at-requires c κs = search needs
+wide-at-requires : tie.Need-wide-at-requires Inv-loop μ-loop
+wide-at-requires c κs = search needs
 
-half-at-requires-2 : tie.Need-half-at-requires-2 Inv-loop μ-loop
-half-at-requires-2 c κs = search needs
+wide-at-requires-2 : tie.Need-wide-at-requires-2 Inv-loop μ-loop
+wide-at-requires-2 c κs = search needs
 
-half-at-requires-3 : tie.Need-half-at-requires-3 Inv-loop μ-loop
-half-at-requires-3 c κs = search needs
+wide-at-requires-3 : tie.Need-wide-at-requires-3 Inv-loop μ-loop
+wide-at-requires-3 c κs = search needs
 
-half-at-requires-4 : tie.Need-half-at-requires-4 Inv-loop μ-loop
-half-at-requires-4 c κs = search needs
+wide-at-requires-4 : tie.Need-wide-at-requires-4 Inv-loop μ-loop
+wide-at-requires-4 c κs = search needs
 
-half-at-requires-5 : tie.Need-half-at-requires-5 Inv-loop μ-loop
-half-at-requires-5 c κs = search needs
+wide-at-requires-5 : tie.Need-wide-at-requires-5 Inv-loop μ-loop
+wide-at-requires-5 c κs = search needs
 
 report-list-requires : tie.Need-report-list-requires Inv-loop μ-loop
 report-list-requires c κs = search needs
@@ -57,11 +57,11 @@ report-spec =
     μ-loop
     loop-holds
     sub-i
-    half-at-requires
-    half-at-requires-2
-    half-at-requires-3
-    half-at-requires-4
-    half-at-requires-5
+    wide-at-requires
+    wide-at-requires-2
+    wide-at-requires-3
+    wide-at-requires-4
+    wide-at-requires-5
     report-list-requires
     sub-left
     loop-less

@@ -1,0 +1,64 @@
+use Prim.Native.Nat.{_-_}
+use lib.ListN.{length}
+use mathlib.Core.Path.{_≡_, _∙_}
+use borrow.Author.Needs.{needs}
+use Rattle.cases.proofs.slices.of_shorts.Statement.{statement}
+use Rattle.cases.proofs.slices.of_shorts.Tie as tie
+use Rattle.cases.proofs.slices.of_shorts.Reads as reads
+use Rattle.cases.proofs.slices.of_shorts.Lts as lts
+use Rattle.cases.proofs.slices.short_at.Reads as short-at-reads
+use Rattle.words.proofs.wide.Reads as wide-reads
+use Rattle.words.proofs.put_word.Reads as put-word-reads
+
+abbrev Inv-loop : tie.InvT-loop
+Inv-loop from to₀ i₀ to i = length to ≡ length to₀
+
+abbrev μ-loop : tie.MeasureT-loop
+μ-loop from to₀ i₀ to i = length from - i
+
+loop-holds : tie.Need-loop-holds Inv-loop μ-loop
+loop-holds c = search needs
+
+short-at-requires : tie.Need-short-at-requires Inv-loop μ-loop
+short-at-requires c κs = search needs
+
+cast-wide : tie.Need-cast-wide Inv-loop μ-loop
+cast-wide c = search needs
+
+wide-requires : tie.Need-wide-requires Inv-loop μ-loop
+wide-requires c κs = search needs
+
+put-word-requires : tie.Need-put-word-requires Inv-loop μ-loop
+put-word-requires c κs = search needs
+
+add-i : tie.Need-add-i Inv-loop μ-loop
+add-i c = search needs
+
+loop-less : tie.Need-loop-less Inv-loop μ-loop
+loop-less c = search needs
+
+loop-again : tie.Need-loop-again Inv-loop μ-loop
+loop-again c = search needs
+
+same-length : tie.Need-same-length Inv-loop μ-loop
+same-length c = search needs
+
+returns : tie.Need-returns Inv-loop μ-loop
+returns c = search needs
+
+pub of-shorts-spec : {M : Type 1} → statement M
+of-shorts-spec =
+    tie.close
+    (tie.spec
+    Inv-loop
+    μ-loop
+    loop-holds
+    short-at-requires
+    cast-wide
+    wide-requires
+    put-word-requires
+    add-i
+    loop-less
+    loop-again
+    same-length
+    returns)
