@@ -8,10 +8,10 @@ use native.Mathlib.Omega.{arith}
 use native.Mathlib.Nat.{mod-eq-of-lt, mod-lt, div-eq-of-lt, mul-le-mul-right, mul-assoc, mul-mod-left}
 use native.Mathlib.Decide.{decLt}
 use lib.ListN.{length, getD}
-use lib.Bits.{bitAnd, bitOr, bitXor, or-comm, and-mask, and-mod, and-le-r, xor-shr, xor-self, xor-lt}
+use lib.Bits.{bitAnd, bitOr, bitXor, and-comm, or-comm, and-mask, and-mod, and-le-r, xor-shr, xor-self, xor-lt}
 use lib.Count.{leadingZeros, leading-length}
 use lib.Pow.{pow-pos, pow-add, split}
-use Rattle.words.specs.Words.{bit}
+use Rattle.words.specs.Words.{bit, without}
 use Rattle.words.specs.Halves.{num, limit}
 use Rattle.words.proofs.BitLaws.{bit-and, bit-or, bit<2, bit-xor-at, bit-without, without-flip, same-bits, xor-zero}
 use Rattle.words.proofs.WordLaws.{limit-pow}
@@ -51,6 +51,13 @@ turned d c f l m e k =
     sym (bit-and d f k)
     ∙ ap (λ (x : ℕ). bit x k) (ap (bitAnd d) (e ∙ ap (λ (x : ℕ). x - 1 - c) limit-pow) ∙ sym (without-flip 128 d c (wide d l) (wide c m)))
     ∙ bit-without d c k
+
+-- the places that a rule leaves open, as the code computes them
+pub open-told : (a c f : ℕ) → c < limit → a ≡ limit - 1 → f ≡ without a c → f ≡ limit - 1 - c
+unfolding without
+open-told a c f l e q =
+    let m : bitAnd a c ≡ c = ap (λ (x : ℕ). bitAnd x c) (e ∙ ap (λ (x : ℕ). x - 1) limit-pow) ∙ and-comm (2 ^ 128 - 1) c ∙ and-mask c 128 ∙ mod-eq-of-lt (wide c l) in
+    q ∙ ap (λ (x : ℕ). a - x) m ∙ ap (λ (x : ℕ). x - c) e
 
 -- where a place is cared for, a header that matches has the rule's value
 one-bit : (x h c v f : ℕ) → x < 2 → h < 2 → c < 2 → v < 2 → min ((x + h) % 2) f ≡ (x + h) % 2 - c → min x c ≡ v

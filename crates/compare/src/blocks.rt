@@ -27,7 +27,6 @@ use crate::engine_sets::next;
 use crate::engine_sets::start as before_all;
 use words::Word;
 use words::and;
-use words::flip;
 use words::is_zero;
 use words::leading_zeros;
 use words::less;
@@ -35,6 +34,7 @@ use words::lowest;
 use words::or;
 use words::same;
 use words::single;
+use words::without;
 use words::xor;
 
 // Whether a block is one piece, with these answers.
@@ -198,13 +198,15 @@ fn loose(care: &[u64], value: &[u64], live: &[u64; 17], h: Word, top: Word) -> W
 {
     let n = care.len() / 2;
     let words = (n + 63) / 64;
+    let all = lowest(128);
     let mut places = Word { low: 0, high: 0 };
     let mut s = next(live, before_all(live), 0, n, words);
     while s.at < n {
         let i = s.at;
-        places = or(places, or(flip(read(care, i)), xor(read(value, i), h)));
+        let open = without(all, read(care, i));
+        places = or(places, or(open, xor(read(value, i), h)));
         if !is_zero(and(places, top)) {
-            return lowest(128);
+            return all;
         }
         s = next(live, s, i + 1, n, words);
     }
