@@ -12,8 +12,14 @@ use borrow.Author.Tests.{eq-eqb, ne-eqb, lt-ltb, le-ltb}
 use Rattle.words.specs.declared.Word.{Word}
 use Rattle.words.specs.Words.{bit, setBits, without}
 use Rattle.words.specs.Halves.{word, num, halves, limit}
-use Rattle.words.proofs.BitLaws.{setBits-ones, without-xor, bit-high}
+use Rattle.words.proofs.BitLaws.{setBits-ones, ones-zero, without-xor, bit-high}
 use Rattle.words.proofs.SeamLaws.{seam-low, seam-high, and-seam, or-seam, xor-seam, setBits-seam, bit-below, bit-above, eqb-seam, ltb-seam, below-low, below-high, trailing-low, trailing-high, leading-low, leading-high, two-lt, two-sum, lt-high}
+
+ones-some : (n : ℕ) → (n ≡ 0 → ⊥) → 0 < ones n
+ones-some n h = above-none (ones n) (λ (e : ones n ≡ 0). h (ones-zero n e))
+  where
+    above-none : (m : ℕ) → (m ≡ 0 → ⊥) → 0 < m
+    above-none m f = omega (arith, f)
 
 -- the word of a number holds it
 pub num-halves : (n : ℕ) → num (halves n) ≡ n
@@ -212,6 +218,20 @@ module _ (a : Word) (p : a .low < 2 ^ 64) where
   unfolding ones
   ones-low e =
       (let z : ones (a .high) ≡ 0 = ap ones e in let q : ones (a .low) ≡ ones (a .low) + ones (a .high) = omega (arith, z) in q) ∙ ones-made
+
+  pub one-low : a .high ≡ 0 → eqb (setBits (a .low)) 1 ≡ eqb (setBits (num a)) 1
+  one-low e = ap (λ (n : ℕ). eqb n 1) (setBits-ones (a .low) ∙ ones-low e)
+
+  pub one-high : a .low ≡ 0 → eqb (setBits (a .high)) 1 ≡ eqb (setBits (num a)) 1
+  unfolding ones
+  one-high e =
+      ap (λ (n : ℕ). eqb n 1)
+      (setBits-ones (a .high) ∙ (let z : ones (a .low) ≡ 0 = ap ones e in let q : ones (a .high) ≡ ones (a .low) + ones (a .high) = omega (arith, z) in q) ∙ ones-made)
+
+  pub one-none : (a .low ≡ 0 → ⊥) → (a .high ≡ 0 → ⊥) → false ≡ eqb (setBits (num a)) 1
+  one-none l h =
+      sym (ne-eqb (setBits (num a)) 1 (λ (e : setBits (num a) ≡ 1). l (ones-zero (a .low)
+      (let q : ones (a .low) ≡ 0 = omega (arith, ones-made, e, ones-some (a .high) h) in q))))
 
   pub bit-low : (k : ℕ) → k < 64 → bit (a .low) k ≡ bit (num a) k
   unfolding num

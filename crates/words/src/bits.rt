@@ -2,6 +2,7 @@
 ghost use mathlib.Core.Path.{_≡_};
 ghost use Prim.Native.Nat.{_-_};
 ghost use lib.Bits.{bitAnd, bitOr, bitXor};
+ghost use lib.Dec.{eqb};
 ghost use Rattle.words.specs.Words.{bit, setBits, without as withoutOf};
 ghost use Rattle.words.specs.Halves.{num, halves, limit};
 use crate::Word;
@@ -64,6 +65,29 @@ pub fn ones(a: Word) -> u32
         return u64::count_ones(a.low);
     }
     u64::count_ones(a.low) + u64::count_ones(a.high)
+}
+
+// Whether one bit of a machine word is set, and no other: without its lowest set bit nothing is left of it.
+fn is_bit(x: u64) -> bool
+    ensures { λ r. ⌜ r ≡ eqb (setBits x) 1 ⌝ }
+{
+    if x == 0 {
+        return false;
+    }
+    x & (x - 1) == 0
+}
+
+// Whether exactly one bit is set.
+pub fn is_single(a: Word) -> bool
+    ensures { λ r. ⌜ r ≡ eqb (setBits (num a)) 1 ⌝ }
+{
+    if a.high == 0 {
+        return is_bit(a.low);
+    }
+    if a.low == 0 {
+        return is_bit(a.high);
+    }
+    false
 }
 
 // The bit at weight 2^k, as 0 or 1: 0 from 128 on.

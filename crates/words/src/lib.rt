@@ -11,6 +11,7 @@ mod zeros;
 pub use bits::and;
 pub use bits::bit_at;
 pub use bits::flip;
+pub use bits::is_single;
 pub use bits::ones;
 pub use bits::or;
 pub use bits::without;
