@@ -16,7 +16,7 @@ use Rattle.rules.specs.Checks.{widest, ruleCheck, rulesCheck}
 use Rattle.rules.specs.Calls.{checkRule}
 use Rattle.words.proofs.Tests.{true-and}
 use Rattle.rules.proofs.ReplyLaws.{verdict-stop, fine-next, need-passed, then-next, then-second}
-use Rattle.rules.proofs.CheckLaws.{width-yes}
+use Rattle.rules.proofs.CheckLaws.{width-inside}
 use Rattle.image.specs.Bytes.{num}
 use Rattle.image.specs.Formats.{ruleSize}
 use Rattle.image.specs.Images.{Entry, ruleIn, rulesIn, entryIn, entriesIn, listsIn, total, formatIn, countIn, widthIn, entriesOf, listsOf}
@@ -187,4 +187,4 @@ module _ (b : List ℕ) where
 -- a rule of a good width is checked as in a list
 pub in-width : (w l i : ℕ) (r : Rule) → 1 ≤ w → w ≤ widest → checkRule w l i r ≡ ruleCheck w l i r
 unfolding checkRule
-in-width w l i r p q = then-next _ _ (width-yes w (true-and (le-leb 1 w p) (le-leb w widest q)))
+in-width w l i r p q = then-next _ _ (width-inside w p q)

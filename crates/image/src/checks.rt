@@ -2,7 +2,7 @@
 ghost use mathlib.Core.Path.{_≡_};
 ghost use Prim.Native.Nat.{_+_, _*_, _≤_, _<_};
 ghost use lib.ListN.{length, drop};
-ghost use Rattle.rules.specs.Replies.{verdictReply, Refuses};
+ghost use Rattle.rules.specs.Replies.{verdictReply};
 ghost use Rattle.rules.specs.Checks.{widest, rulesCheck};
 ghost use Rattle.image.specs.Formats.{ruleSize};
 ghost use Rattle.image.specs.Images.{entryIn, entryWith, rulesIn, formatIn, countIn, widthIn, entriesOf, total};
@@ -15,16 +15,9 @@ use crate::numbers::rule_in;
 use crate::numbers::u16_at;
 use crate::numbers::u32_at;
 use crate::numbers::wide;
-use rules::Refusal;
 use rules::Verdict;
 use rules::check_rule;
-
-// A refusal as a verdict.
-pub(crate) fn refused(number: usize, list: usize, rule: usize) -> Verdict
-    ensures { λ r. ⌜ verdictReply r ≡ Refuses number list rule ⌝ }
-{
-    Verdict::Refused(Refusal { number, list, rule })
-}
+use rules::refused;
 
 // The size, the first four bytes, and room for the contents.
 fn head(b: &[u8]) -> Verdict

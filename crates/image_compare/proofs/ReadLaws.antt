@@ -11,7 +11,7 @@ use Rattle.words.proofs.SliceLaws.{halves-length}
 use Rattle.rules.specs.Rule.{Rule}
 use Rattle.rules.specs.declared.Refusal.{Refusal}
 use Rattle.rules.specs.Rules.{Valid}
-use Rattle.rules.specs.Slices.{rulesOf}
+use Rattle.rules.specs.Slices.{rulesOf, careOf, valueOf, decisionOf, caresOf, valuesOf, decisionsOf}
 use Rattle.rules.specs.Lists.{All}
 use Rattle.rules.specs.Replies.{Reply, Gives, Refuses, passed, _then_, refusalReply, unlessRefused}
 use Rattle.rules.specs.Checks.{lengthsCheck, roomCheck}
@@ -23,7 +23,7 @@ use Rattle.image.specs.declared.Outcome.{Outcome}
 use Rattle.image.specs.Images.{widthIn}
 use Rattle.image.specs.Checks.{imageCheck}
 use Rattle.image.specs.Places.{placeOf, listWith}
-use Rattle.image.specs.Calls.{idCheck, readReply, ReadOut, filled, careOf, valueOf, decisionOf, caresOf, valuesOf, decisionsOf}
+use Rattle.image.specs.Calls.{idCheck, readReply, ReadOut, filled}
 use Rattle.image.specs.Replies.{outcomeReply}
 use Rattle.image.proofs.BareLaws.{Bare, bare-first, bare-then, bare-need, bare-image}
 use Rattle.image.proofs.PassedLaws.{length-with, list-facts}

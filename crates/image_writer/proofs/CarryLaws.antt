@@ -11,7 +11,7 @@ use Rattle.rules.specs.Rule.{Rule}
 use Rattle.rules.specs.Lists.{All}
 use Rattle.rules.specs.Replies.{passed, need}
 use Rattle.rules.specs.Checks.{sizeCheck}
-use Rattle.rules.specs.Slices.{rulesOf}
+use Rattle.rules.specs.Slices.{rulesOf, careOf, valueOf, decisionOf, caresOf, valuesOf, decisionsOf}
 use Rattle.rules.proofs.ReplyLaws.{then-next, then-second, need-then, need-yes}
 use Rattle.image.specs.Bytes.{le}
 use Rattle.words.specs.Slices.{halvesOf}
@@ -19,7 +19,6 @@ use Rattle.words.proofs.SliceLaws.{halves-length}
 use Rattle.image.specs.Formats.{ruleSize}
 use Rattle.image.specs.Images.{Named, named, Entry, listsIn, total, formatIn, countIn, widthIn, entriesIn, entriesOf, listsOf}
 use Rattle.image.specs.Checks.{entryCheck, entriesCheck, listsCheck, contentsCheck, headCheck, bodiesCheck, imageCheck}
-use Rattle.image.specs.Calls.{careOf, valueOf, decisionOf, caresOf, valuesOf, decisionsOf}
 use Rattle.image_writer.specs.Writing.{sumOf, cut, given, namesCheck, imageLength, writeCheck}
 use Rattle.image.proofs.BareLaws.{bare-first, bare-entry, bare-head, bare-contents}
 use Rattle.image.proofs.HeadLaws.{entry-facts, head-facts}

@@ -18,7 +18,7 @@ use Rattle.rules.specs.Calls.{checkList}
 use Rattle.rules.specs.Slices.{zipped, rulesOf, Lent}
 use Rattle.words.proofs.Tests.{true-and, and-true, same-test, eqb-yes, yes-eqb}
 use Rattle.rules.proofs.ReplyLaws.{then-next, then-refuses, fine-next, verdict-stop, need-yes, need-no, need-then, need-passed, then-second}
-use Rattle.rules.proofs.CheckLaws.{list-rules, lengths-values, lengths-decisions, lengths-yes, room-yes, room-no}
+use Rattle.rules.proofs.CheckLaws.{list-rules, width-inside, lengths-values, lengths-decisions, lengths-yes, room-yes, room-no}
 use Rattle.rules.proofs.SliceLaws.{rules-take}
 use Rattle.rules.proofs.ZipLaws.{ap₃}
 use Rattle.words.proofs.SliceLaws.{words-drop}
@@ -270,7 +270,7 @@ list-part w l from n first k cs vs ds a b lent h small p q =
     let x = length-part k first cs (omega (arith, lent .decisions)) in
     let y = length-part k first vs (omega (arith, lent .values, lent .decisions)) in
     let z = length-part n from ds h in
-    list-rules w l (part k first cs) (part k first vs) (part n from ds) (true-and (le-leb 1 w a) (le-leb w widest b)) (x ∙ sym y) (omega arith) (omega (arith, z))
+    list-rules w l (part k first cs) (part k first vs) (part n from ds) (width-inside w a b) (x ∙ sym y) (omega arith) (omega (arith, z))
     ∙ ap (rulesCheck w l 1) (rules-take n k (drop first cs) (drop first vs) (drop from ds) q ∙ ap (take n) (rules-drop from first cs vs ds p))
 
 module _ (w i from n : ℕ) (ids ns : List ℕ) (rs : List Rule) (h : i < length ids) (l : length ns ≡ length ids) (e : n ≡ getD ns i 0) where

@@ -5,6 +5,7 @@ use mathlib.Core.Bool.{true}
 use Prim.Native.Nat.{ℕ, _≤_, _<_}
 use native.Mathlib.Omega.{arith}
 use lib.ListN.{length}
+use Rattle.rules.specs.Slices.{decisionOf, caresOf, valuesOf, decisionsOf}
 use Rattle.rules.specs.Lists.{All}
 use Rattle.rules.specs.Replies.{Reply, Gives, passed, unlessRefused}
 use Rattle.rules.proofs.ReplyLaws.{then-next}
@@ -14,7 +15,6 @@ use Rattle.image.specs.Formats.{known, mostPlaces}
 use Rattle.image.specs.Images.{Named, formatIn, widthIn, listsOf, bytesOf}
 use Rattle.image.specs.Checks.{imageCheck}
 use Rattle.image.specs.Places.{listWith}
-use Rattle.image.specs.Calls.{decisionOf, caresOf, valuesOf, decisionsOf}
 use Rattle.image.proofs.BackLaws.{AreBytes, read-write}
 use Rattle.image.proofs.Theorems.{rulesNamed, list-named}
 use Rattle.image_writer.specs.Writing.{cut, given, imageLength, writeCheck, writeReply, imaged, Written}

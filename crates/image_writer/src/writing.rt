@@ -3,7 +3,7 @@ ghost use mathlib.Core.Path.{_≡_};
 ghost use Prim.Native.Nat.{_+_, _*_, _≤_};
 ghost use lib.Dec.{eqb};
 ghost use lib.ListN.{length};
-ghost use Rattle.rules.specs.Replies.{verdictReply, passed, Refuses};
+ghost use Rattle.rules.specs.Replies.{verdictReply, passed};
 ghost use Rattle.rules.specs.Checks.{widest};
 ghost use Rattle.rules.specs.Slices.{Lent};
 ghost use Rattle.image.specs.Checks.{listsCheck};
@@ -16,16 +16,9 @@ use crate::puts::put_head;
 use crate::puts::put_rules;
 use crate::puts::wide16;
 use image::Outcome;
-use rules::Refusal;
 use rules::Verdict;
 use rules::check_list_as;
-
-// A refusal as a verdict.
-fn refused(number: usize, list: usize, rule: usize) -> Verdict
-    ensures { λ r. ⌜ verdictReply r ≡ Refuses number list rule ⌝ }
-{
-    Verdict::Refused(Refusal { number, list, rule })
-}
+use rules::refused;
 
 // Whether counts add up to a number of rules. What is left of it is counted down, so that no sum can wrap.
 fn adds_up(counts: &[u16], rules: usize) -> bool

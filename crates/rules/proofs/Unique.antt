@@ -14,13 +14,22 @@ use Rattle.rules.specs.declared.Holds.{Holds}
 use Rattle.rules.specs.declared.Measured.{Measured}
 use Rattle.rules.specs.Rules.{covers, crosses}
 use Rattle.rules.specs.Slices.{rulesOf, ruleAt, Placed}
-use Rattle.rules.specs.Replies.{verdictReply, lookedReply, holdsReply, measuredReply}
+use Rattle.rules.specs.Replies.{Refuses, verdictReply, lookedReply, holdsReply, measuredReply}
+use Rattle.rules.specs.Checks.{widthCheck}
 use Rattle.rules.specs.Calls.{checkRule, checkList, lookedUp, coversReply, crossesReply, distanceReply}
 use Rattle.rules.proofs.ReplyLaws.{one-verdict, one-looked, one-holds, one-measured}
 
 -- two things that equal a third
 both : {A : Type 0} {a b c : A} → a ≡ c → b ≡ c → a ≡ b
 both p q = p ∙ sym q
+
+-- `refused`
+pub refused-once : (n l i : ℕ) (a b : Verdict) → verdictReply a ≡ Refuses n l i → verdictReply b ≡ Refuses n l i → a ≡ b
+refused-once n l i a b p q = one-verdict a b (both p q)
+
+-- `check_width`
+pub check-width-once : (w : ℕ) (a b : Verdict) → verdictReply a ≡ widthCheck w → verdictReply b ≡ widthCheck w → a ≡ b
+check-width-once w a b p q = one-verdict a b (both p q)
 
 -- `check_rule`
 pub check-rule-once : (w l i : ℕ) (r : Rule) (a b : Verdict) → verdictReply a ≡ checkRule w l i r → verdictReply b ≡ checkRule w l i r → a ≡ b

@@ -8,6 +8,8 @@ mod slices;
 pub use checks::check_list;
 pub use checks::check_list_as;
 pub use checks::check_rule;
+pub use checks::check_width;
+pub use checks::refused;
 pub use lookups::lookup;
 pub use lookups::lookup_number;
 pub use pairs::covers;

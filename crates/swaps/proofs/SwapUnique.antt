@@ -7,6 +7,7 @@ use Rattle.rules.specs.declared.Rule.{Rule as Held}
 use Rattle.rules.specs.Rule.{ruleOf}
 use Rattle.rules.specs.declared.Wire.{Wire}
 use Rattle.rules.specs.declared.Looked.{Looked}
+use Rattle.rules.specs.declared.Refusal.{Refusal}
 use Rattle.rules.specs.declared.Verdict.{Verdict}
 use Rattle.swaps.specs.declared.swaps.Swap.{Swap}
 use Rattle.swaps.specs.declared.swaps.Swapped.{Swapped}
@@ -17,7 +18,7 @@ use Rattle.swaps.specs.declared.swaps.SwapAnswer.{SwapAnswer}
 use Rattle.rules.specs.Replies.{Reply, lookedReply}
 use Rattle.rules.specs.Checks.{widest}
 use Rattle.rules.specs.Calls.{lookedUp}
-use Rattle.swaps.specs.SwapCalls.{movedRuleAnswer, toSwappedAnswer, toWireAnswer, SwapGiven, checkSwap, checkSwaps, appliedRule, appliedHeader, undoneHeader, inverted, joined}
+use Rattle.swaps.specs.SwapCalls.{movedRuleAnswer, toSwappedAnswer, toWireAnswer, noSwap, SwapGiven, checkSwap, checkSwaps, appliedRule, appliedHeader, undoneHeader, inverted, joined}
 use Rattle.rules.proofs.ReplyLaws.{one-verdict, one-looked}
 
 -- ---- one swap beside a verdict
@@ -56,3 +57,9 @@ compose-once s t a b p q = one-swap-given widest _ _ a b p q
 pub lookup-swapped-once : (w : ℕ) (cs vs ds : List ℕ) (h : Swapped) (a b : Looked)
     → lookedReply a ≡ lookedUp w cs vs ds (num (h .0)) → lookedReply b ≡ lookedUp w cs vs ds (num (h .0)) → a ≡ b
 lookup-swapped-once w cs vs ds h a b p q = one-looked a b (p ∙ sym q)
+
+-- `refused_swap`
+pub refused-swap-once : (x : Refusal) (a b : SwapAnswer) → (a .verdict ≡ Verdict.Refused x) × (a .swap ≡ noSwap widest)
+    → (b .verdict ≡ Verdict.Refused x) × (b .swap ≡ noSwap widest) → a ≡ b
+unfolding answerOf
+refused-swap-once x a b p q = ap₂ answerOf (p .0 ∙ sym (q .0)) (p .1 ∙ sym (q .1))

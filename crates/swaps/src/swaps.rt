@@ -11,15 +11,15 @@ ghost use Rattle.rules.specs.Replies.{verdictReply, lookedReply};
 ghost use Rattle.rules.specs.Calls.{lookedUp};
 ghost use Rattle.swaps.specs.Swaps.{moved, times, seat, entryGood, good, inverse, composed};
 ghost use Rattle.swaps.specs.SwapCalls.{movedRuleAnswer, toSwappedAnswer, toWireAnswer, swapOf, noSwap, SwapGiven, placesCheck, checkSwap, checkSwapRule, checkSwapHeader, checkSwaps, appliedRule, appliedHeader, undoneHeader, inverted, joined};
-use crate::checks::is_width;
-use crate::checks::refused;
 use rules::Looked;
 use rules::Refusal;
 use rules::Rule;
 use rules::Verdict;
 use rules::Wire;
 use rules::check_rule;
+use rules::check_width;
 use rules::lookup_number;
+use rules::refused;
 use words::Word;
 
 // A header in swapped order. Its word is private: outside this module one comes only from `apply`.
@@ -179,7 +179,7 @@ fn composed_places(first: &[u8; 128], second: &[u8; 128], width: usize) -> [u8; 
     out
 }
 
-// Refusal 9 of a swap whose width is one.
+// Refusal 9 of a swap whose width is 1 to 128.
 fn places_verdict(places: &[u8; 128], width: u32) -> Verdict
     requires { ⌜ width ≤ widest ⌝ }
     ensures { λ r. ⌜ verdictReply r ≡ placesCheck widest (swapOf (now (places .entry)) width) ⌝ }
@@ -194,10 +194,11 @@ fn places_verdict(places: &[u8; 128], width: u32) -> Verdict
 fn swap_verdict(places: &[u8; 128], width: u32) -> Verdict
     ensures { λ r. ⌜ verdictReply r ≡ checkSwap widest (swapOf (now (places .entry)) width) ⌝ }
 {
-    if is_width(width) {
-        return places_verdict(places, width);
-    }
-    refused(1, 0, 0)
+    let v = check_width(width);
+    let Verdict::Fine = v else {
+        return v;
+    };
+    places_verdict(places, width)
 }
 
 // A swap and a rule: 1, then 4 and 5 of the rule, then 9.
@@ -215,13 +216,14 @@ fn swap_rule_verdict(places: &[u8; 128], width: u32, rule: Rule) -> Verdict
 fn swap_header_verdict(places: &[u8; 128], width: u32, header: Word) -> Verdict
     ensures { λ r. ⌜ verdictReply r ≡ checkSwapHeader widest (swapOf (now (places .entry)) width) (num header) ⌝ }
 {
-    if is_width(width) {
-        if words::below(header, width) {
-            return places_verdict(places, width);
-        }
-        return refused(6, 0, 0);
+    let v = check_width(width);
+    let Verdict::Fine = v else {
+        return v;
+    };
+    if words::below(header, width) {
+        return places_verdict(places, width);
     }
-    refused(1, 0, 0)
+    refused(6, 0, 0)
 }
 
 // Two swaps: the first's 1 and 9, then the second's, then 9 where the widths differ.
@@ -243,8 +245,8 @@ fn swaps_verdict(first: &[u8; 128], width: u32, second: &[u8; 128], other: u32) 
     refused(9, 0, 0)
 }
 
-// A refusal with the swap of zeros beside it.
-fn refused_swap(refusal: Refusal) -> SwapAnswer
+// The answer of a call that would give a swap and is refused: the refusal, with the swap of zeros beside it.
+pub fn refused_swap(refusal: Refusal) -> SwapAnswer
     ensures { λ r. ⌜ (r .verdict ≡ Verdict.Refused refusal) × (r .swap ≡ noSwap widest) ⌝ }
 {
     SwapAnswer {

@@ -1,166 +1,108 @@
--- The starred examples of document 01 ("Tried by hand"), a row or some rows to an example, each proved by computing both sides.
-use Prim.Native.Nat.{ℕ}
-use mathlib.Core.Path.{_≡_, refl}
+-- The starred examples of document 01 ("Tried by hand"): one table, and one proof of all its rows by computing both sides.
+use Prim.Native.Nat.{ℕ, _*_}
+use mathlib.Core.Path.{_≡_, refl, ap, _∙_}
 use mathlib.Core.List.{List, [], _∷_}
-use Rattle.words.specs.Halves.{num}
-use Rattle.words.specs.Slices.{wordsOf}
+use lib.ListN.{length}
+use Rattle.words.specs.Halves.{num, halves}
+use Rattle.words.specs.Slices.{wordsOf, halvesOf}
 use Rattle.rules.specs.Rule.{Rule}
-use Rattle.rules.specs.Rules.{rule, matches, first, answer, noMatch, covers, crosses, stars, mergeable, merged}
-use Rattle.rules.specs.Slices.{zipped}
-use Rattle.rules.specs.Replies.{Gives, Refuses}
-use Rattle.rules.specs.Checks.{widthCheck, lengthsCheck, sizeCheck, patternFits, ruleCheck, rulesCheck, listCheck, headerCheck}
+use Rattle.rules.specs.Rules.{rule, matches, first, noMatch, covers, crosses, stars, mergeable, merged}
+use Rattle.rules.specs.Slices.{zipped, rulesOf, caresOf, valuesOf, decisionsOf}
+use Rattle.rules.specs.Replies.{Reply, Gives, Refuses, passed, _then_}
+use Rattle.rules.specs.Checks.{widthCheck, lengthsCheck, sizeCheck, patternFits, ruleCheck, rulesCheck, listCheck, headerCheck, roomCheck}
 use Rattle.rules.specs.Calls.{checkList, lookedUp}
+use Rattle.rules.proofs.ReplyLaws.{then-next}
 use Rattle.prefixes.specs.Prefix.{checkPrefix, crossCheck, crossesAmong, crossesWith}
-use Rattle.weaving.specs.Runs.{cut, runs, runSizes}
-use Rattle.weaving.specs.Weave.{weave, kept, dropped, merges}
-use Rattle.compare.specs.Runs.{run, runs as runsOf, runsTo, differences, portion, ending}
+use Rattle.weaving.specs.Runs.{cut, runSizes}
+use Rattle.weaving.specs.Weave.{weave, dropped, merges}
+use Rattle.weaving.specs.Calls.{runsReply, weaveReply}
+use Rattle.compare.specs.Runs.{Run, run, runs as runsOf, runsTo, differences, portion, ending}
 use Rattle.compare.specs.Calls.{compareCheck, portionCheck, resultsCheck}
 
--- ---- runs, weaving and the prefix bit-swap
+-- ---- what a row says
 
--- What weaving a list gives: the woven list, and the three counts.
+-- Cutting these rules into runs: the call's reply is the number of runs, and these are their sizes.
+pub record Cuts (w : ℕ) (rs : List Rule) (sizes : List ℕ) : Type 0 where
+  pub reply : runsReply w (caresOf rs) (valuesOf rs) (decisionsOf rs) (decisionsOf rs) ≡ Gives (length sizes ∷ [])
+  pub list : runSizes (rulesOf (caresOf rs) (valuesOf rs) (decisionsOf rs)) ≡ sizes
+
+-- Weaving these rules, with result slices that are as long: the call's reply is the three counts, and this is the woven list.
 pub record Weaves (w : ℕ) (rs ms : List Rule) (keeps drops joins : ℕ) : Type 0 where
-  pub list : weave w rs ≡ ms
-  pub entries : kept w rs ≡ keeps
-  pub covered : dropped rs ≡ drops
-  pub pairs : merges w rs ≡ joins
+  pub reply : weaveReply w (caresOf rs) (valuesOf rs) (decisionsOf rs) (caresOf rs) (valuesOf rs) (decisionsOf rs) ≡ Gives (keeps ∷ drops ∷ joins ∷ [])
+  pub list : weave w (rulesOf (caresOf rs) (valuesOf rs) (decisionsOf rs)) ≡ ms
 
--- `000*`→1, `001*`→1, `0000`→2, `0***`→2, `1***`→1 weaves to `00**`→1, `0***`→2, `1***`→1; 3 kept, 1 dropped, 1 merge.
-pub five-rules : Weaves 4 (rule 14 0 1 ∷ rule 14 2 1 ∷ rule 15 0 2 ∷ rule 8 0 2 ∷ rule 8 8 1 ∷ []) (rule 12 0 1 ∷ rule 8 0 2 ∷ rule 8 8 1 ∷ []) 3 1 1
-unfolding weave dropped merges crosses covers stars mergeable merged
-five-rules = record { list = refl; entries = refl; covered = refl; pairs = refl }
+-- The checks of a comparison of these rules with result slices of so many places.
+abbrev compareChecks : (w : ℕ) → (old new : List Rule) → (start room : ℕ) → Reply
+compareChecks w old new start room =
+    compareCheck w (caresOf old) (valuesOf old) (decisionsOf old) (caresOf new) (valuesOf new) (decisionsOf new) start (room * 2) (room * 2) room room
 
--- `0*`→1, `*0`→2: two runs, unchanged.
-pub crossing-runs : runSizes (rule 2 0 1 ∷ rule 1 0 2 ∷ []) ≡ (1 ∷ 1 ∷ [])
-unfolding cut crosses
-crossing-runs = refl
+-- All runs of differences of these rules.
+abbrev allRuns : (w : ℕ) → (old new : List Rule) → (start : ℕ) → List Run
+allRuns w old new start =
+    differences w (rulesOf (caresOf old) (valuesOf old) (decisionsOf old)) (rulesOf (caresOf new) (valuesOf new) (decisionsOf new)) start
 
--- `0*`→1, `*0`→2: no prefix bit-swap, refused 8 with the pair (1, 2).
-pub crossing-swap : checkPrefix 2 (2 ∷ 0 ∷ 1 ∷ 0 ∷ []) (0 ∷ 0 ∷ 0 ∷ 0 ∷ []) (1 ∷ 2 ∷ []) ≡ Refuses 8 1 2
-unfolding checkPrefix crossCheck crossesAmong crossesWith crosses checkList widthCheck listCheck lengthsCheck sizeCheck rulesCheck ruleCheck patternFits zipped wordsOf num
-crossing-swap = refl
+-- Comparing these rules: the call is not refused, it lists these runs, and it ends with this header, or with none where it finished.
+pub record Compares (w : ℕ) (old new : List Rule) (start room : ℕ) (listed : List Run) (next : List ℕ) : Type 0 where
+  pub fine : compareChecks w old new start room ≡ passed
+  pub list : portion room (allRuns w old new start) ≡ listed
+  pub last : ending room (allRuns w old new start) ≡ next
 
-pub crossing-rules : Weaves 2 (rule 2 0 1 ∷ rule 1 0 2 ∷ []) (rule 2 0 1 ∷ rule 1 0 2 ∷ []) 2 0 0
-unfolding weave dropped merges crosses covers stars mergeable merged
-crossing-rules = record { list = refl; entries = refl; covered = refl; pairs = refl }
+-- ---- the table
 
--- `0*`→1, `*0`→2, `00`→3: two runs; the last rule is dropped.
-pub covered-runs : runSizes (rule 2 0 1 ∷ rule 1 0 2 ∷ rule 3 0 3 ∷ []) ≡ (1 ∷ 2 ∷ [])
-unfolding cut crosses
-covered-runs = refl
+-- The two lists of the comparison at width 3: `0**`→1, and `00*`→1, `1*1`→1.
+abbrev older : List Rule
+older = rule 4 0 1 ∷ []
 
-pub covered-rule : Weaves 2 (rule 2 0 1 ∷ rule 1 0 2 ∷ rule 3 0 3 ∷ []) (rule 2 0 1 ∷ rule 1 0 2 ∷ []) 2 1 0
-unfolding weave dropped merges crosses covers stars mergeable merged
-covered-rule = record { list = refl; entries = refl; covered = refl; pairs = refl }
+abbrev newer : List Rule
+newer = rule 6 0 1 ∷ rule 5 5 1 ∷ []
 
--- `00`, `01`, `11`, all 7: `0*`, `11`.
-pub first-pair : Weaves 2 (rule 3 0 7 ∷ rule 3 1 7 ∷ rule 3 3 7 ∷ []) (rule 2 0 7 ∷ rule 3 3 7 ∷ []) 2 0 1
-unfolding weave dropped merges crosses covers stars mergeable merged
-first-pair = record { list = refl; entries = refl; covered = refl; pairs = refl }
+pub record Table : Type 0 where
+  -- `000*`→1, `001*`→1, `0000`→2, `0***`→2, `1***`→1 becomes `00**`→1, `0***`→2, `1***`→1: 3, 1 and 1
+  pub five-rules : Weaves 4 (rule 14 0 1 ∷ rule 14 2 1 ∷ rule 15 0 2 ∷ rule 8 0 2 ∷ rule 8 8 1 ∷ []) (rule 12 0 1 ∷ rule 8 0 2 ∷ rule 8 8 1 ∷ []) 3 1 1
+  -- `0*`→1, `*0`→2 stays as it is, in two runs, and has no prefix bit-swap: 8 with the pair (1, 2)
+  pub crossing-runs : Cuts 2 (rule 2 0 1 ∷ rule 1 0 2 ∷ []) (1 ∷ 1 ∷ [])
+  pub crossing-rules : Weaves 2 (rule 2 0 1 ∷ rule 1 0 2 ∷ []) (rule 2 0 1 ∷ rule 1 0 2 ∷ []) 2 0 0
+  pub crossing-swap : checkPrefix 2 (2 ∷ 0 ∷ 1 ∷ 0 ∷ []) (0 ∷ 0 ∷ 0 ∷ 0 ∷ []) (1 ∷ 2 ∷ []) ≡ Refuses 8 1 2
+  -- with `00`→3 after them, the second run covers it
+  pub covered-runs : Cuts 2 (rule 2 0 1 ∷ rule 1 0 2 ∷ rule 3 0 3 ∷ []) (1 ∷ 2 ∷ [])
+  pub covered-rule : Weaves 2 (rule 2 0 1 ∷ rule 1 0 2 ∷ rule 3 0 3 ∷ []) (rule 2 0 1 ∷ rule 1 0 2 ∷ []) 2 1 0
+  -- `00`, `01`, `11`, each →7, becomes `0*`, `11`
+  pub first-pair : Weaves 2 (rule 3 0 7 ∷ rule 3 1 7 ∷ rule 3 3 7 ∷ []) (rule 2 0 7 ∷ rule 3 3 7 ∷ []) 2 0 1
+  -- `00`, `01`, `10`, `11`, each →7, becomes `**` by three merges
+  pub all-pairs : Weaves 2 (rule 3 0 7 ∷ rule 3 1 7 ∷ rule 3 2 7 ∷ rule 3 3 7 ∷ []) (rule 0 0 7 ∷ []) 1 0 3
+  -- `1*`→1, `00`→2 becomes `00`→2, `1*`→1
+  pub sorted-rules : Weaves 2 (rule 2 2 1 ∷ rule 3 0 2 ∷ []) (rule 3 0 2 ∷ rule 2 2 1 ∷ []) 2 0 0
+  -- the empty list, at any width that passes: nothing is kept, and no header that passes has a match
+  pub empty-list : (w : ℕ) → widthCheck w ≡ passed → Weaves w [] [] 0 0 0
+  pub empty-runs : (w : ℕ) → widthCheck w ≡ passed → Cuts w [] []
+  pub empty-lookup : (w h : ℕ) → widthCheck w ≡ passed → headerCheck w h ≡ passed → lookedUp w [] [] [] h ≡ Gives []
+  -- width 3 from header 0 with room for all three runs; with room for one; from header 3; from header 8, which is refused 6
+  pub three-runs : Compares 3 older newer 0 3 (run 2 3 1 noMatch ∷ run 5 5 noMatch 1 ∷ run 7 7 noMatch 1 ∷ []) []
+  pub room-one : Compares 3 older newer 0 1 (run 2 3 1 noMatch ∷ []) (5 ∷ [])
+  pub start-three : Compares 3 older newer 3 3 (run 3 3 1 noMatch ∷ run 5 5 noMatch 1 ∷ run 7 7 noMatch 1 ∷ []) []
+  pub start-eight : compareChecks 3 older newer 8 1 ≡ Refuses 6 0 0
+  -- width 2, `00`→1, `01`→1 against the empty list: one run, from 0 to 1
+  pub one-run : Compares 2 (rule 3 0 1 ∷ rule 3 1 1 ∷ []) [] 0 1 (run 0 1 1 noMatch ∷ []) []
 
--- `00`, `01`, `10`, `11`, all 7: `**`, three merges.
-pub all-pairs : Weaves 2 (rule 3 0 7 ∷ rule 3 1 7 ∷ rule 3 2 7 ∷ rule 3 3 7 ∷ []) (rule 0 0 7 ∷ []) 1 0 3
-unfolding weave dropped merges crosses covers stars mergeable merged
-all-pairs = record { list = refl; entries = refl; covered = refl; pairs = refl }
-
--- `1*`→1, `00`→2: out comes `00`→2, `1*`→1.
-pub sorted-rules : Weaves 2 (rule 2 2 1 ∷ rule 3 0 2 ∷ []) (rule 3 0 2 ∷ rule 2 2 1 ∷ []) 2 0 0
-unfolding weave dropped merges crosses covers stars mergeable merged
-sorted-rules = record { list = refl; entries = refl; covered = refl; pairs = refl }
-
--- The empty list: no runs, 0 kept; every lookup no match.
-pub empty-runs : runs [] ≡ []
-empty-runs = refl
-
-pub empty-list : (w : ℕ) → Weaves w [] [] 0 0 0
-unfolding weave dropped merges
-empty-list w = record { list = refl; entries = refl; covered = refl; pairs = refl }
-
-pub empty-answers : (h : ℕ) → answer [] h ≡ noMatch
-unfolding first
-empty-answers h = refl
-
--- and so says the call, here for the last header of width 3
-pub empty-lookup : lookedUp 3 [] [] [] 7 ≡ Gives []
-unfolding lookedUp checkList widthCheck listCheck lengthsCheck sizeCheck rulesCheck zipped wordsOf headerCheck first
-empty-lookup = refl
-
--- Not merged: `0*` and `11` differ at one place where both care, but their care words are not equal.
-pub unequal-care : Weaves 2 (rule 2 0 7 ∷ rule 3 3 7 ∷ []) (rule 3 3 7 ∷ rule 2 0 7 ∷ []) 2 0 0
-unfolding weave dropped merges crosses covers stars mergeable merged
-unequal-care = record { list = refl; entries = refl; covered = refl; pairs = refl }
-
--- Width 64: the pair differs in place 1 alone.
-pub half-width : Weaves 64
-    (rule 0xffff_ffff_ffff_ffff 0 7 ∷ rule 0xffff_ffff_ffff_ffff 0x8000_0000_0000_0000 7 ∷ rule 1 0 9 ∷ [])
-    (rule 0x7fff_ffff_ffff_ffff 0 7 ∷ rule 1 0 9 ∷ []) 2 0 1
-unfolding weave dropped merges crosses covers stars mergeable merged
-half-width = record { list = refl; entries = refl; covered = refl; pairs = refl }
-
--- Width 128: the same.
-pub full-width : Weaves 128
-    (rule 0xffff_ffff_ffff_ffff_ffff_ffff_ffff_ffff 0 7 ∷ rule 0xffff_ffff_ffff_ffff_ffff_ffff_ffff_ffff 0x8000_0000_0000_0000_0000_0000_0000_0000 7 ∷ rule 1 0 9 ∷ [])
-    (rule 0x7fff_ffff_ffff_ffff_ffff_ffff_ffff_ffff 0 7 ∷ rule 1 0 9 ∷ []) 2 0 1
-unfolding weave dropped merges crosses covers stars mergeable merged
-full-width = record { list = refl; entries = refl; covered = refl; pairs = refl }
-
--- Width 65: a list is taken, and the header 2^64 is one of its headers; the header 2^65 is refused 6.
-pub past-the-half : lookedUp 65 (0 ∷ 1 ∷ []) (0 ∷ 1 ∷ []) (7 ∷ []) 0x1_0000_0000_0000_0000 ≡ Gives (7 ∷ [])
-unfolding lookedUp checkList widthCheck listCheck lengthsCheck sizeCheck rulesCheck ruleCheck patternFits zipped wordsOf num headerCheck first matches
-past-the-half = refl
-
-pub past-the-width : lookedUp 65 (0 ∷ 1 ∷ []) (0 ∷ 1 ∷ []) (7 ∷ []) 0x2_0000_0000_0000_0000 ≡ Refuses 6 0 0
-unfolding lookedUp checkList widthCheck listCheck lengthsCheck sizeCheck rulesCheck ruleCheck patternFits zipped wordsOf num headerCheck
-past-the-width = refl
-
--- Width 129: refused 1. A care slice without a partner for its last number: refused 2.
-pub too-wide : checkList 129 1 [] [] [] ≡ Refuses 1 0 0
-unfolding checkList widthCheck
-too-wide = refl
-
-pub odd-slices : checkList 3 1 (4 ∷ 0 ∷ 1 ∷ []) (4 ∷ 0 ∷ 1 ∷ []) (7 ∷ []) ≡ Refuses 2 0 0
-unfolding checkList widthCheck listCheck lengthsCheck
-odd-slices = refl
-
--- ---- the comparison
-
--- Width 3, old `0**`→1, new `00*`→1, `1*1`→1.
-abbrev old : List Rule
-old = rule 4 0 1 ∷ []
-
-abbrev new : List Rule
-new = rule 6 0 1 ∷ rule 5 5 1 ∷ []
-
--- From header 0: (2,3,1,none), (5,5,none,1), (7,7,none,1).
-pub three-runs : differences 3 old new 0 ≡ (run 2 3 1 noMatch ∷ run 5 5 noMatch 1 ∷ run 7 7 noMatch 1 ∷ [])
-unfolding runsTo runsOf first matches
-three-runs = refl
-
--- With room for three, finished.
-pub three-finished : ending 3 (differences 3 old new 0) ≡ []
-unfolding runsTo runsOf first matches
-three-finished = refl
-
--- Room 1: the first run, more from 5.
-pub room-one : portion 1 (differences 3 old new 0) ≡ (run 2 3 1 noMatch ∷ [])
-unfolding runsTo runsOf first matches
-room-one = refl
-
-pub room-one-more : ending 1 (differences 3 old new 0) ≡ (5 ∷ [])
-unfolding runsTo runsOf first matches
-room-one-more = refl
-
--- Start 3: the first run is (3,3).
-pub start-three : differences 3 old new 3 ≡ (run 3 3 1 noMatch ∷ run 5 5 noMatch 1 ∷ run 7 7 noMatch 1 ∷ [])
-unfolding runsTo runsOf first matches
-start-three = refl
-
--- Start 8: refusal 6.
-pub start-eight : compareCheck 3 (4 ∷ 0 ∷ []) (0 ∷ 0 ∷ []) (1 ∷ []) (6 ∷ 0 ∷ 5 ∷ 0 ∷ []) (0 ∷ 0 ∷ 5 ∷ 0 ∷ []) (1 ∷ 1 ∷ []) 8 2 2 1 1 ≡ Refuses 6 0 0
-unfolding compareCheck portionCheck resultsCheck headerCheck widthCheck listCheck lengthsCheck sizeCheck rulesCheck ruleCheck patternFits zipped wordsOf num
-start-eight = refl
-
--- Width 2, old `00`→1, `01`→1, new empty: one run, 0 to 1.
-pub one-run : differences 2 (rule 3 0 1 ∷ rule 3 1 1 ∷ []) [] 0 ≡ (run 0 1 1 noMatch ∷ [])
-unfolding runsTo runsOf first matches
-one-run = refl
+-- Every row, by computing.
+pub table : Table
+unfolding runsReply weaveReply weave dropped merges cut crosses covers stars mergeable merged checkPrefix crossCheck crossesAmong crossesWith checkList lookedUp widthCheck listCheck lengthsCheck sizeCheck rulesCheck ruleCheck patternFits headerCheck roomCheck zipped wordsOf halvesOf num halves compareCheck portionCheck resultsCheck runsTo runsOf first matches
+table = record {
+  five-rules = record { reply = refl; list = refl };
+  crossing-runs = record { reply = refl; list = refl };
+  crossing-rules = record { reply = refl; list = refl };
+  crossing-swap = refl;
+  covered-runs = record { reply = refl; list = refl };
+  covered-rule = record { reply = refl; list = refl };
+  first-pair = record { reply = refl; list = refl };
+  all-pairs = record { reply = refl; list = refl };
+  sorted-rules = record { reply = refl; list = refl };
+  empty-list = λ w e. record { reply = then-next _ _ (then-next _ _ e); list = refl };
+  empty-runs = λ w e. record { reply = then-next _ _ (then-next _ _ e); list = refl };
+  empty-lookup = λ w h e k. then-next _ _ (then-next _ _ e) ∙ then-next _ _ k;
+  three-runs = record { fine = refl; list = refl; last = refl };
+  room-one = record { fine = refl; list = refl; last = refl };
+  start-three = record { fine = refl; list = refl; last = refl };
+  start-eight = refl;
+  one-run = record { fine = refl; list = refl; last = refl };
+}

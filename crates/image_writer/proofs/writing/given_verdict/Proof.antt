@@ -6,7 +6,7 @@ use Rattle.image_writer.proofs.writing.given_verdict.Statement.{stateme
 use Rattle.image_writer.proofs.writing.given_verdict.Tie as tie
 use Rattle.image_writer.proofs.writing.given_verdict.Reads as reads
 use Rattle.image_writer.proofs.writing.given_verdict.Lts as lts
-use Rattle.image_writer.proofs.writing.refused.Reads as refused-reads
+use Rattle.rules.proofs.refused.Reads as refused-reads
 use Rattle.image_writer.proofs.writing.adds_up.Reads as adds-up-reads
 
 refused-requires : tie.Need-refused-requires

@@ -9,7 +9,7 @@ use Rattle.image_writer.proofs.writing.names_verdict.Statement.{stateme
 use Rattle.image_writer.proofs.writing.names_verdict.Tie as tie
 use Rattle.image_writer.proofs.writing.names_verdict.Reads as reads
 use Rattle.image_writer.proofs.writing.names_verdict.Lts as lts
-use Rattle.image_writer.proofs.writing.refused.Reads as refused-reads
+use Rattle.rules.proofs.refused.Reads as refused-reads
 use Rattle.image_writer.proofs.puts.wide16.Reads as wide16-reads
 
 abbrev Inv-loop : tie.InvT-loop

@@ -7,7 +7,7 @@ use Rattle.image_writer.proofs.writing.shape_verdict.Statement.{stateme
 use Rattle.image_writer.proofs.writing.shape_verdict.Tie as tie
 use Rattle.image_writer.proofs.writing.shape_verdict.Reads as reads
 use Rattle.image_writer.proofs.writing.shape_verdict.Lts as lts
-use Rattle.image_writer.proofs.writing.refused.Reads as refused-reads
+use Rattle.rules.proofs.refused.Reads as refused-reads
 use Rattle.image_writer.proofs.formats.is_known.Reads as is-known-reads
 use Rattle.image_writer.proofs.formats.most_places.Reads as most-places-reads
 use Rattle.image_writer.proofs.writing.given_verdict.Reads as given-verdict-reads

@@ -8,7 +8,7 @@ use Rattle.image_writer.proofs.writing.write_verdict.Statement.{stateme
 use Rattle.image_writer.proofs.writing.write_verdict.Tie as tie
 use Rattle.image_writer.proofs.writing.write_verdict.Reads as reads
 use Rattle.image_writer.proofs.writing.write_verdict.Lts as lts
-use Rattle.image_writer.proofs.writing.refused.Reads as refused-reads
+use Rattle.rules.proofs.refused.Reads as refused-reads
 use Rattle.image_writer.proofs.formats.body_size.Reads as body-size-reads
 use Rattle.image_writer.proofs.writing.lists_verdict.Reads as lists-verdict-reads
 use Rattle.image_writer.proofs.writing.names_verdict.Reads as names-verdict-reads
