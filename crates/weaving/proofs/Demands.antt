@@ -1,0 +1,177 @@
+-- What the call `weave` owes its user (demand 2), read off its own promise: the list that it leaves, how long that is, that it
+-- passes a list's checks and how it answers; and that a refused call leaves every slice as it was.
+use mathlib.Core.Path.{_≡_, refl, sym, ap, _∙_}
+use mathlib.Core.List.{List, [], _∷_, map}
+use Prim.Native.Nat.{ℕ, _+_, _*_, _≤_}
+use native.Mathlib.Omega.{arith}
+use lib.ListN.{length, take, length-map}
+use lib.Seq.{take-at}
+use Rattle.words.specs.Slices.{halvesOf}
+use Rattle.words.proofs.SliceLaws.{halves-length}
+use Rattle.rules.specs.Rule.{Rule}
+use Rattle.rules.specs.Rules.{answer}
+use Rattle.rules.specs.declared.Refusal.{Refusal}
+use Rattle.rules.specs.Slices.{rulesOf, Lent}
+use Rattle.rules.specs.Replies.{Reply, Gives, Refuses, passed, _then_, unlessRefused}
+use Rattle.rules.specs.Checks.{widthCheck, lengthsCheck, sizeCheck, ruleCheck, rulesCheck, listCheck, headerCheck, roomCheck}
+use Rattle.rules.specs.Calls.{checkList, answered, lookedUp}
+use Rattle.rules.proofs.ReplyLaws.{then-next, then-second, gives-refuses}
+use Rattle.rules.proofs.ZipLaws.{ap₃}
+use Rattle.rules.proofs.SliceLaws.{rules-length, rules-columns}
+use Rattle.rules.proofs.CheckLaws.{Sound, list-sound}
+use Rattle.weaving.specs.declared.Counted.{Counted}
+use Rattle.weaving.specs.declared.Tally.{Tally}
+use Rattle.weaving.specs.declared.Woven.{Woven}
+use Rattle.weaving.specs.Weave.{weave, kept, dropped, merges}
+use Rattle.weaving.specs.Calls.{filled, RunsDone, weaveReply, WeaveDone}
+use Rattle.weaving.proofs.Theorems.{weave-keeps-answers, counts-add-up, woven-list-passes}
+
+-- ---- a list whose checks are followed by an answer passed them
+
+-- The checks of rules give no values.
+rules-plain : (w l i : ℕ) (rs : List Rule) (ns : List ℕ) → rulesCheck w l i rs ≡ Gives ns → rulesCheck w l i rs ≡ passed
+unfolding rulesCheck
+rules-plain w l i [] ns e = refl
+rules-plain w l i (r ∷ rs) ns e =
+    let f = then-second (ruleCheck w l i r) _ ns e in
+    e ∙ sym f ∙ rules-plain w l (i + 1) rs ns f
+
+-- Nor do those of a list.
+list-plain : (w l : ℕ) (cs vs ds ns : List ℕ) → checkList w l cs vs ds ≡ Gives ns → checkList w l cs vs ds ≡ passed
+unfolding checkList listCheck
+list-plain w l cs vs ds ns e =
+    let f = then-second (widthCheck w) _ ns e in
+    let g = then-second (lengthsCheck cs vs ds) _ ns f in
+    let h = then-second (sizeCheck l (length ds)) _ ns g in
+    e ∙ sym h ∙ rules-plain w l 1 (rulesOf cs vs ds) ns h
+
+-- Where a list's checks come first and the call gives an answer, the list passed.
+list-passed : (w l : ℕ) (cs vs ds : List ℕ) (next : Reply) (ns : List ℕ) → (checkList w l cs vs ds then next) ≡ Gives ns
+    → checkList w l cs vs ds ≡ passed
+list-passed w l cs vs ds next ns e = go (checkList w l cs vs ds) refl e
+  where
+    go : (a : Reply) → checkList w l cs vs ds ≡ a → (a then next) ≡ Gives ns → checkList w l cs vs ds ≡ passed
+    go (Gives ms) p q = list-plain w l cs vs ds ms p
+    go (Refuses n i r) p q = absurd (gives-refuses (sym q))
+
+-- ---- the kept places
+
+-- The entries of the kept rules in a care slice or a value slice.
+abbrev pub keptWords : Tally → List ℕ → List ℕ
+keptWords t words = take (t .kept * 2) words
+
+-- The decisions of the kept rules.
+abbrev pub keptDecisions : Tally → List ℕ → List ℕ
+keptDecisions t decisions = take (t .kept) decisions
+
+-- The first places of a slice that was filled.
+filled-front : (k n : ℕ) (xs old : List ℕ) → length xs ≡ k → take k (filled n xs old) ≡ xs
+unfolding filled
+filled-front k n xs old e = take-at xs _ k e
+
+-- ---- weaving
+
+module _ (w : ℕ) (cs vs ds ocs ovs ods ocs′ ovs′ ods′ : List ℕ) (t : Tally)
+    (D : WeaveDone w cs vs ds ocs ovs ods ocs′ ovs′ ods′ (Woven.Done t)) where
+  abbrev woven : List Rule
+  woven = weave w (rulesOf cs vs ds)
+
+  -- what the call said
+  said : weaveReply w cs vs ds ocs ovs ods ≡ Gives (t .kept ∷ t .dropped ∷ t .merged ∷ [])
+  said = sym (D .reply)
+
+  -- the list lent passed its checks
+  source-passes : checkList w 1 cs vs ds ≡ passed
+  unfolding weaveReply
+  source-passes = list-passed w 1 cs vs ds _ _ said
+
+  source-sound : Sound w cs vs ds
+  source-sound = list-sound w 1 cs vs ds source-passes
+
+  source-length : length (rulesOf cs vs ds) ≡ length ds
+  source-length = rules-length cs vs ds (source-sound .lent)
+
+  -- the three counts are those of the definitions
+  counts : Gives (kept w (rulesOf cs vs ds) ∷ dropped (rulesOf cs vs ds) ∷ merges w (rulesOf cs vs ds) ∷ []) ≡ Gives (t .kept ∷ t .dropped ∷ t .merged ∷ [])
+  unfolding weaveReply
+  counts =
+      then-second (roomCheck (length ds) (length ods)) _ _
+      (then-second (lengthsCheck ocs ovs ods) _ _ (then-second (checkList w 1 cs vs ds) _ _ said))
+
+  keeps : length woven ≡ t .kept
+  keeps = let e = counts in cc
+
+  drops : dropped (rulesOf cs vs ds) ≡ t .dropped
+  drops = let e = counts in cc
+
+  joins : merges w (rulesOf cs vs ds) ≡ t .merged
+  joins = let e = counts in cc
+
+  -- where the call is not refused, the kept places of a slice hold what it was filled with
+  front : (k n : ℕ) (xs old new : List ℕ) → new ≡ unlessRefused (weaveReply w cs vs ds ocs ovs ods) (filled n xs old) old → length xs ≡ k
+      → take k new ≡ xs
+  front k n xs old new e f =
+      ap (take k) (e ∙ ap (λ (r : Reply). unlessRefused r (filled n xs old) old) said) ∙ filled-front k n xs old f
+
+  -- a column of the woven list has an entry for each kept rule, and two where it holds words
+  column-length : (f : Rule → ℕ) → length (map f woven) ≡ t .kept
+  column-length f = length-map woven f ∙ keeps
+
+  words-long : (f : Rule → ℕ) → length (halvesOf (map f woven)) ≡ t .kept * 2
+  words-long f = halves-length (map f woven) ∙ ap (λ (n : ℕ). n * 2) (column-length f)
+
+  -- each slice begins with its column
+  cares-front : keptWords t ocs′ ≡ halvesOf (map (λ (r : Rule). r .care) woven)
+  cares-front = front _ _ _ _ _ (D .cares) (words-long (λ (r : Rule). r .care))
+
+  values-front : keptWords t ovs′ ≡ halvesOf (map (λ (r : Rule). r .value) woven)
+  values-front = front _ _ _ _ _ (D .values) (words-long (λ (r : Rule). r .value))
+
+  decisions-front : keptDecisions t ods′ ≡ map (λ (r : Rule). r .decision) woven
+  decisions-front = front _ _ _ _ _ (D .decisions) (column-length (λ (r : Rule). r .decision))
+
+  -- the kept places of the three slices belong together
+  kept-together : Lent (keptWords t ocs′) (keptWords t ovs′) (keptDecisions t ods′)
+  kept-together =
+      let c = ap length cares-front ∙ words-long (λ (r : Rule). r .care) in
+      let v = ap length values-front ∙ words-long (λ (r : Rule). r .value) in
+      let d = ap length decisions-front ∙ column-length (λ (r : Rule). r .decision) in
+      record { values = v ∙ sym c; decisions = ap (λ (n : ℕ). n * 2) d ∙ sym c }
+
+  -- The first places of the result slices, as many as the call says it kept, hold the woven list, entry for entry.
+  pub woven-places : rulesOf (keptWords t ocs′) (keptWords t ovs′) (keptDecisions t ods′) ≡ weave w (rulesOf cs vs ds)
+  woven-places = ap₃ rulesOf cares-front values-front decisions-front ∙ rules-columns woven
+
+  -- The three counts of the answer add up to the number of rules lent.
+  pub woven-counts : t .kept + t .dropped + t .merged ≡ length ds
+  woven-counts = omega (arith, counts-add-up w (rulesOf cs vs ds), source-length, keeps, drops, joins)
+
+  -- The woven list has no more entries than the list lent has rules.
+  pub woven-shorter : t .kept ≤ length ds
+  woven-shorter = omega (arith, woven-counts)
+
+  -- The woven list passes the checks that every call makes of a list lent to it, whichever number the call names it by.
+  pub woven-passes : (l : ℕ) → checkList w l (keptWords t ocs′) (keptWords t ovs′) (keptDecisions t ods′) ≡ passed
+  woven-passes l = woven-list-passes w l cs vs ds _ _ _ source-sound kept-together woven-places
+
+  -- Looking a header up in the woven list replies as in the list lent: with the same decision, with no match where there is
+  -- none, and with the same refusal where the header is no header of the width.
+  pub woven-lookup : (h : ℕ) → lookedUp w (keptWords t ocs′) (keptWords t ovs′) (keptDecisions t ods′) h ≡ lookedUp w cs vs ds h
+  unfolding lookedUp
+  woven-lookup h =
+      then-next _ _ (woven-passes 1)
+      ∙ ap (λ (a : ℕ). headerCheck w h then answered a) (ap (λ (rs : List Rule). answer rs h) woven-places ∙ weave-keeps-answers w (rulesOf cs vs ds) (source-sound .valid) h)
+      ∙ sym (then-next _ _ source-passes)
+
+-- ---- refused calls
+
+-- A refused `weave` leaves the three result slices as they were.
+pub refused-leaves : (w : ℕ) (cs vs ds ocs ovs ods ocs′ ovs′ ods′ : List ℕ) (x : Refusal)
+    → WeaveDone w cs vs ds ocs ovs ods ocs′ ovs′ ods′ (Woven.Refused x) → (ocs′ ≡ ocs) × (ovs′ ≡ ovs) × (ods′ ≡ ods)
+refused-leaves w cs vs ds ocs ovs ods ocs′ ovs′ ods′ x D =
+    (rw (sym (D .reply)) at (D .cares), rw (sym (D .reply)) at (D .values), rw (sym (D .reply)) at (D .decisions))
+
+-- A refused `runs` leaves the slice of sizes as it was.
+pub runs-refused-leaves : (w : ℕ) (cs vs ds sizes sizes′ : List ℕ) (x : Refusal)
+    → RunsDone w cs vs ds sizes sizes′ (Counted.Refused x) → sizes′ ≡ sizes
+runs-refused-leaves w cs vs ds sizes sizes′ x D = rw (sym (D .reply)) at (D .after)
