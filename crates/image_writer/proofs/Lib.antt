@@ -4,5 +4,7 @@ pub mod GivenLaws
 pub mod WriteLaws
 pub mod AgainLaws
 pub mod CarryLaws
+pub mod ListLaws
 pub mod Theorems
+pub mod Demands
 pub mod Unique

@@ -1,0 +1,155 @@
+-- What `write` and the calls that read promise together: what was written is read back, and what was read is written again, byte for byte.
+-- The hypotheses are the calls' promises and their answers, and of what is lent only what the types of the slices say.
+use mathlib.Core.Path.{_≡_, sym, ap, _∙_, subst}
+use mathlib.Core.List.{List, [], _∷_}
+use Prim.Native.Nat.{ℕ, _+_, _*_, _≤_, _<_}
+use native.Mathlib.Omega.{arith}
+use lib.Dec.{leb}
+use lib.ListN.{length, getD, take, drop, length-append, length-drop}
+use lib.Seq.{take-at, drop-at}
+use Rattle.rules.specs.Slices.{rulesOf}
+use Rattle.rules.specs.Replies.{Reply, Gives, passed, need, unlessRefused}
+use Rattle.rules.specs.Checks.{lengthsCheck, roomCheck}
+use Rattle.rules.proofs.ReplyLaws.{then-next, then-second, one-value}
+use Rattle.image.specs.declared.Outcome.{Outcome}
+use Rattle.image.specs.Images.{Named, formatIn, widthIn, countIn, listsOf, bytesOf}
+use Rattle.image.specs.Checks.{listsCheck, imageCheck}
+use Rattle.image.specs.Calls.{formatReply, widthReply, countReply, entryReply, readReply, ReadOut}
+use Rattle.image.proofs.BareLaws.{Bare, bare-need, bare-then, bare-first}
+use Rattle.image.proofs.Theorems.{rulesNamed}
+use Rattle.image.proofs.Unique.{one-outcome}
+use Rattle.image_writer.specs.Writing.{sumOf, given, namesCheck, imageLength, shapeCheck, writeCheck, writeReply, imaged, Written}
+use Rattle.image_writer.proofs.WriteLaws.{WriteFacts, write-facts, length-cut, rules-given, length-image}
+use Rattle.image_writer.proofs.AgainLaws.{Rising}
+use Rattle.image_writer.proofs.CarryLaws.{facts-carried}
+use Rattle.image_writer.proofs.ListLaws.{listAt, named-at, entry-gives, read-gives, read-size, read-rules, cut-at, cut-size}
+use Rattle.image_writer.proofs.Theorems.{AreIds, written-accepted, written-lists}
+
+-- ---- written, and read back
+
+bare-write : (f w : ℕ) (ids ns cs vs ds : List ℕ) (room : ℕ) → Bare (writeCheck f w ids ns cs vs ds room)
+unfolding writeCheck roomCheck
+bare-write f w ids ns cs vs ds room =
+    bare-then (shapeCheck f w ids ns cs vs ds) _
+    (bare-then (namesCheck 1 0 ids ns) _
+    (bare-then (listsCheck w 1 (given ids ns cs vs ds)) _
+    (bare-then (need (leb (imageLength f (length ids) (length ds)) 65536) 10 0 0) _ (bare-need (leb (imageLength f (length ids) (length ds)) room) 7 0 0))))
+
+-- `write` answered with the number n, and left out′ in the bytes that held out.
+module _ (f w : ℕ) (ids ns cs vs ds out out′ : List ℕ) (n : ℕ) (a : AreIds ids) (W : Written f w ids ns cs vs ds out (Outcome.Number n) out′) where
+  check : writeCheck f w ids ns cs vs ds (length out) ≡ passed
+  unfolding writeReply
+  check = bare-first (writeCheck f w ids ns cs vs ds (length out)) _ (bare-write f w ids ns cs vs ds (length out)) (n ∷ []) (sym (W .answer))
+
+  facts : WriteFacts f w ids ns cs vs ds (length out)
+  facts = write-facts f w ids ns cs vs ds (length out) [] check
+
+  length-is : length (bytesOf f w (given ids ns cs vs ds)) ≡ n
+  unfolding writeReply
+  length-is = length-image f w ids ns cs vs ds (facts .shape) ∙ one-value (then-second (writeCheck f w ids ns cs vs ds (length out)) _ (n ∷ []) (sym (W .answer)))
+
+  left : out′ ≡ imaged (bytesOf f w (given ids ns cs vs ds)) out
+  left = W .bytes ∙ ap (λ (u : Reply). unlessRefused u (imaged (bytesOf f w (given ids ns cs vs ds)) out) out) (sym (W .answer))
+
+  -- The first n bytes are the image of the format, the width and the lists given.
+  pub written-bytes : take n out′ ≡ bytesOf f w (given ids ns cs vs ds)
+  written-bytes = let b : List ℕ = bytesOf f w (given ids ns cs vs ds) in ap (take n) left ∙ take-at b (drop (length b) out) n length-is
+
+  -- Later bytes are as they were.
+  pub written-rest : drop n out′ ≡ drop n out
+  written-rest =
+      let b : List ℕ = bytesOf f w (given ids ns cs vs ds) in
+      ap (drop n) left ∙ drop-at b (drop (length b) out) n length-is ∙ ap (λ (k : ℕ). drop k out) length-is
+
+  -- There was room for n bytes, n of them are the image, and there are as many bytes as before.
+  pub written-fits : (n ≤ length out) × (length (take n out′) ≡ n) × (length out′ ≡ length out)
+  written-fits =
+      let b : List ℕ = bytesOf f w (given ids ns cs vs ds) in
+      let fits : n ≤ length out = omega (arith, facts .fits, length-image f w ids ns cs vs ds (facts .shape), length-is) in (
+        fits,
+        ap length written-bytes ∙ length-is,
+        ap length left ∙ length-append b (drop (length b) out) ∙ omega (arith, length-is, length-drop (length b) out),
+      )
+
+  -- `check` finds nothing against the written bytes.
+  pub written-passes : imageCheck (take n out′) ≡ passed
+  written-passes = ap imageCheck written-bytes ∙ written-accepted f w ids ns cs vs ds (length out) a check
+
+  -- ---- what the calls tell of the written bytes
+
+  lists : listsOf (take n out′) ≡ given ids ns cs vs ds
+  lists = ap listsOf written-bytes ∙ written-lists f w ids ns cs vs ds (length out) a check
+
+  head-is : (formatIn (take n out′) ≡ f) × (widthIn (take n out′) ≡ w) × (countIn (take n out′) ≡ length ids)
+  unfolding bytesOf
+  head-is = (ap formatIn written-bytes, ap widthIn written-bytes, ap countIn written-bytes ∙ length-cut ids ns (rulesOf cs vs ds) (facts .shape .paired))
+
+  -- `format`, `width` and `count` tell the format, the width and the number of ids given.
+  pub written-asked : (formatReply (take n out′) ≡ Gives (f ∷ [])) × (widthReply (take n out′) ≡ Gives (w ∷ [])) × (countReply (take n out′) ≡ Gives (length ids ∷ []))
+  unfolding formatReply widthReply countReply
+  written-asked = (
+    then-next _ _ written-passes ∙ ap (λ (k : ℕ). Gives (k ∷ [])) (head-is .0),
+    then-next _ _ written-passes ∙ ap (λ (k : ℕ). Gives (k ∷ [])) (head-is .1),
+    then-next _ _ written-passes ∙ ap (λ (k : ℕ). Gives (k ∷ [])) (head-is .2),
+  )
+
+  -- `read`, where it gives a number, gives the number of rules given for that id, and the first places of its slices hold them.
+  pub written-reads : (id : ℕ) (c v d c′ v′ d′ : List ℕ) (m : ℕ) → ReadOut (take n out′) id c v d (Outcome.Number m) c′ v′ d′
+      → (rulesOf (take (m * 2) c′) (take (m * 2) v′) (take m d′) ≡ rulesNamed id (given ids ns cs vs ds)) × (m ≡ length (rulesNamed id (given ids ns cs vs ds)))
+  written-reads id c v d c′ v′ d′ m o = (
+    read-rules (take n out′) id c v d m c′ v′ d′ o ∙ ap (rulesNamed id) lists,
+    sym (read-size (take n out′) id c v d m c′ v′ d′ o) ∙ ap (λ (l : List Named). length (rulesNamed id l)) lists,
+  )
+
+  -- The list of the id at place k of the ids, counted from 0.
+  module _ (k : ℕ) (h : k < length ids) where
+    at-id : listAt (given ids ns cs vs ds) k .id ≡ getD ids k 0
+    at-id = ap (λ (l : Named). l .id) (cut-at ids ns (rulesOf cs vs ds) k (facts .shape .paired) h)
+
+    at-size : length (listAt (given ids ns cs vs ds) k .rules) ≡ getD ns k 0
+    at-size =
+        cut-size ids ns (rulesOf cs vs ds) k (facts .shape .paired) h
+        (omega (arith, facts .shape .sums, rules-given f w ids ns cs vs ds (facts .shape)))
+
+    below : k < countIn (take n out′)
+    below = omega (arith, head-is .2)
+
+    names-it : rulesNamed (getD ids k 0) (given ids ns cs vs ds) ≡ listAt (given ids ns cs vs ds) k .rules
+    names-it =
+        let ls : List Named = given ids ns cs vs ds in
+        let up : Rising 0 ls = facts-carried f w ids ns cs vs ds (length out) a facts .rising in
+        ap (λ (i : ℕ). rulesNamed i ls) (sym at-id) ∙ named-at 0 ls k up (omega (arith, length-cut ids ns (rulesOf cs vs ds) (facts .shape .paired)))
+
+    -- The rules given for it: as many as the count at place k says, after those of the counts before it.
+    pub written-part : rulesNamed (getD ids k 0) (given ids ns cs vs ds) ≡ take (getD ns k 0) (drop (sumOf (take k ns)) (rulesOf cs vs ds))
+    written-part = names-it ∙ ap (λ (l : Named). l .rules) (cut-at ids ns (rulesOf cs vs ds) k (facts .shape .paired) h)
+
+    part-size : length (rulesNamed (getD ids k 0) (given ids ns cs vs ds)) ≡ getD ns k 0
+    part-size = ap length names-it ∙ at-size
+
+    -- `entry` tells its id and its count.
+    pub written-entry : entryReply (take n out′) (k + 1) ≡ Gives (getD ids k 0 ∷ getD ns k 0 ∷ [])
+    written-entry =
+        entry-gives (take n out′) k written-passes below
+        ∙ ap (λ (l : List Named). Gives (listAt l k .id ∷ length (listAt l k .rules) ∷ [])) lists
+        ∙ (λ j. Gives (at-id j ∷ at-size j ∷ []))
+
+    -- `read` with its id does not refuse slices that belong together and have room for its rules.
+    pub written-found : (c v d : List ℕ) → lengthsCheck c v d ≡ passed → length (rulesNamed (getD ids k 0) (given ids ns cs vs ds)) ≤ length d
+        → readReply (take n out′) (getD ids k 0) c v d ≡ Gives (length (rulesNamed (getD ids k 0) (given ids ns cs vs ds)) ∷ [])
+    written-found c v d l =
+        subst (λ (i : ℕ). length (rulesNamed i (given ids ns cs vs ds)) ≤ length d → readReply (take n out′) i c v d ≡ Gives (length (rulesNamed i (given ids ns cs vs ds)) ∷ [])) at-id
+        (subst (λ (x : List Named). length (rulesNamed (listAt x k .id) x) ≤ length d → readReply (take n out′) (listAt x k .id) c v d ≡ Gives (length (rulesNamed (listAt x k .id) x) ∷ [])) lists
+        (read-gives (take n out′) k written-passes below c v d l))
+
+    -- Written, then read: the answer is the count given for the id, and the first places of the slices hold the rules given for it.
+    pub written-list : (c v d c′ v′ d′ : List ℕ) (r : Outcome) → lengthsCheck c v d ≡ passed → getD ns k 0 ≤ length d
+        → ReadOut (take n out′) (getD ids k 0) c v d r c′ v′ d′
+        → (r ≡ Outcome.Number (getD ns k 0))
+        × (rulesOf (take (getD ns k 0 * 2) c′) (take (getD ns k 0 * 2) v′) (take (getD ns k 0) d′) ≡ take (getD ns k 0) (drop (sumOf (take k ns)) (rulesOf cs vs ds)))
+    written-list c v d c′ v′ d′ r l room o =
+        let m : ℕ = getD ns k 0 in
+        let answer : r ≡ Outcome.Number m =
+        one-outcome r (Outcome.Number m) (o .answer ∙ written-found c v d l (omega (arith, part-size)) ∙ ap (λ (i : ℕ). Gives (i ∷ [])) part-size) in
+        let told : ReadOut (take n out′) (getD ids k 0) c v d (Outcome.Number m) c′ v′ d′ = rw answer at o in
+        (answer, written-reads (getD ids k 0) c v d c′ v′ d′ m told .0 ∙ written-part)

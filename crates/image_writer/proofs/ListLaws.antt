@@ -1,0 +1,167 @@
+-- The lists of an image one by one: what `entry` and `read` give of each, and which part of the rules given to `write` each is.
+use mathlib.Core.Path.{_≡_, refl, sym, ap, _∙_}
+use mathlib.Core.List.{List, [], _∷_}
+use mathlib.Core.Bool.{Bool, true, false}
+use Prim.Native.Nat.{ℕ, zero, suc, _+_, _-_, _*_, _≤_, _<_}
+use native.Mathlib.Omega.{arith}
+use lib.Dec.{eqb}
+use lib.ListN.{length, getD, take, drop, length-drop}
+use lib.Seq.{length-take-le, take-at, drop-drop}
+use borrow.Author.Tests.{eq-eqb, ne-eqb, le-leb}
+use Rattle.rules.specs.Rule.{Rule}
+use Rattle.rules.specs.Slices.{rulesOf}
+use Rattle.rules.specs.Replies.{Reply, Gives, passed, unlessRefused}
+use Rattle.rules.specs.Checks.{lengthsCheck, roomCheck}
+use Rattle.rules.proofs.ReplyLaws.{then-next, then-second, need-yes, one-value}
+use Rattle.rules.proofs.CheckLaws.{room-yes}
+use Rattle.rules.proofs.SliceLaws.{rules-columns}
+use Rattle.image.specs.declared.Outcome.{Outcome}
+use Rattle.image.specs.Formats.{ruleSize}
+use Rattle.image.specs.Images.{Entry, entryWith, Named, named, listsIn, formatIn, countIn, entriesOf, listsOf}
+use Rattle.image.specs.Checks.{imageCheck}
+use Rattle.image.specs.Places.{placeIn, placeAt, pickPlace, placeOf, listWith}
+use Rattle.image.specs.Calls.{entryReply, idCheck, readReply, ReadOut, filled, careOf, valueOf, decisionOf, caresOf, valuesOf, decisionsOf}
+use Rattle.image.proofs.SeekLaws.{length-entries, length-rulesIn}
+use Rattle.image.proofs.PassedLaws.{length-with}
+use Rattle.image.proofs.Theorems.{rulesNamed, list-named}
+use Rattle.image_writer.specs.Writing.{sumOf, cut}
+use Rattle.image_writer.proofs.AgainLaws.{Rising}
+use Rattle.image_writer.proofs.CarryLaws.{length-column, length-words}
+
+-- the list at place k, counted from 0; a list of no rules past the end
+abbrev pub listAt : List Named → (k : ℕ) → Named
+listAt ls k = getD ls k (named 0 [])
+
+-- ---- which list an id names
+
+rising-at : (least : ℕ) (ls : List Named) (k : ℕ) → Rising least ls → k < length ls → least ≤ listAt ls k .id
+rising-at least [] k r h = absurd (omega arith)
+rising-at least (l ∷ ls) zero r h = r .0
+rising-at least (l ∷ ls) (suc k) r h = omega (arith, r .0, rising-at (l .id + 1) ls k (r .3) (omega arith))
+
+-- where ids rise, an id names one list
+pub named-at : (least : ℕ) (ls : List Named) (k : ℕ) → Rising least ls → k < length ls → rulesNamed (listAt ls k .id) ls ≡ listAt ls k .rules
+unfolding rulesNamed
+named-at least [] k r h = absurd (omega arith)
+named-at least (l ∷ ls) zero r h = simp (eq-eqb (l .id) (l .id) refl)
+named-at least (l ∷ ls) (suc k) r h =
+    let above : l .id + 1 ≤ listAt ls k .id = rising-at (l .id + 1) ls k (r .3) (omega arith) in
+    let other : eqb (l .id) (listAt ls k .id) ≡ false = ne-eqb (l .id) (listAt ls k .id) (λ e. omega arith) in
+    simp other (named-at (l .id + 1) ls k (r .3) (omega arith))
+
+-- ---- the lists beside the contents
+
+-- the list at a place has the id and the number of rules that the contents say
+list-entry : (fmt : ℕ) (es : List Entry) (s : List ℕ) (k : ℕ)
+    → (listAt (listsIn fmt es s) k .id ≡ getD es k (entryWith 0 0 0) .id) × (length (listAt (listsIn fmt es s) k .rules) ≡ getD es k (entryWith 0 0 0) .count)
+unfolding listsIn
+list-entry fmt [] s k = (refl, refl)
+list-entry fmt (e ∷ es) s zero = (refl, length-rulesIn fmt (e .count) s)
+list-entry fmt (e ∷ es) s (suc k) = list-entry fmt es (drop (ruleSize fmt * e .count) s) k
+
+picked : (t : Bool) (fmt id next count from : ℕ) (es : List Entry) → placeIn fmt id from es .found ≡ true
+    → pickPlace t (placeAt true next count) (placeIn fmt id from es) .found ≡ true
+picked true fmt id next count from es e = refl
+picked false fmt id next count from es e = e
+
+place-found : (fmt next : ℕ) (es : List Entry) (k : ℕ) → k < length es → placeIn fmt (getD es k (entryWith 0 0 0) .id) next es .found ≡ true
+unfolding placeIn
+place-found fmt next [] k h = absurd (omega arith)
+place-found fmt next (e ∷ es) zero h = simp (eq-eqb (e .id) (e .id) refl)
+place-found fmt next (e ∷ es) (suc k) h =
+    let i : ℕ = getD es k (entryWith 0 0 0) .id in
+    let from : ℕ = next + ruleSize fmt * e .count in
+    picked (eqb (e .id) i) fmt i next (e .count) from es (place-found fmt from es k (omega arith))
+
+module _ (b : List ℕ) (k : ℕ) where
+  at-entry : (listAt (listsOf b) k .id ≡ getD (entriesOf b) k (entryWith 0 0 0) .id) × (length (listAt (listsOf b) k .rules) ≡ getD (entriesOf b) k (entryWith 0 0 0) .count)
+  unfolding listsOf
+  at-entry = list-entry (formatIn b) (entriesOf b) (drop (4 + 8 * countIn b) b) k
+
+  at-found : k < countIn b → placeOf b (listAt (listsOf b) k .id) .found ≡ true
+  unfolding placeOf entriesOf
+  at-found h =
+      ap (λ (i : ℕ). placeOf b i .found) (at-entry .0)
+      ∙ place-found (formatIn b) (4 + 8 * countIn b) (entriesOf b) k (omega (arith, length-entries (countIn b) (drop 4 b)))
+
+  module _ (f : imageCheck b ≡ passed) (h : k < countIn b) where
+    -- `entry` tells the id and the number of rules of the list at each place
+    pub entry-gives : entryReply b (k + 1) ≡ Gives (listAt (listsOf b) k .id ∷ length (listAt (listsOf b) k .rules) ∷ [])
+    unfolding entryReply
+    entry-gives =
+        let same : k + 1 - 1 ≡ k = omega arith in
+        then-next _ _ f
+        ∙ then-next _ _ (need-yes _ 15 0 0 (le-leb 1 (k + 1) (omega arith)))
+        ∙ then-next _ _ (need-yes _ 15 0 0 (le-leb (k + 1) (countIn b) (omega arith)))
+        ∙ ap (λ (i : ℕ). Gives (getD (entriesOf b) i (entryWith 0 0 0) .id ∷ getD (entriesOf b) i (entryWith 0 0 0) .count ∷ [])) same
+        ∙ (λ j. Gives (sym (at-entry .0) j ∷ sym (at-entry .1) j ∷ []))
+
+    -- `read` with that id, into slices that belong together and have room, gives the number of rules
+    pub read-gives : (c v d : List ℕ) → lengthsCheck c v d ≡ passed → length (rulesNamed (listAt (listsOf b) k .id) (listsOf b)) ≤ length d
+        → readReply b (listAt (listsOf b) k .id) c v d ≡ Gives (length (rulesNamed (listAt (listsOf b) k .id) (listsOf b)) ∷ [])
+    unfolding readReply idCheck
+    read-gives c v d l room =
+        let id : ℕ = listAt (listsOf b) k .id in
+        let size : placeOf b id .count ≡ length (rulesNamed id (listsOf b)) = sym (length-with b id) ∙ ap length (list-named b id) in
+        then-next _ _ (then-next _ _ f ∙ need-yes _ 15 0 0 (at-found h))
+        ∙ then-next _ _ l
+        ∙ then-next _ _ (room-yes _ _ (omega arith))
+        ∙ ap (λ (n : ℕ). Gives (n ∷ [])) size
+
+-- ---- what is in the slices after a read that came out
+
+module _ (b : List ℕ) (id : ℕ) (c v d : List ℕ) (n : ℕ) (c′ v′ d′ : List ℕ) (o : ReadOut b id c v d (Outcome.Number n) c′ v′ d′) where
+  -- the answer is the number of rules
+  pub read-size : length (rulesNamed id (listsOf b)) ≡ n
+  unfolding readReply
+  read-size =
+      ap length (sym (list-named b id)) ∙ length-with b id
+      ∙ one-value (then-second (roomCheck (placeOf b id .count) (length d)) _ (n ∷ [])
+      (then-second (lengthsCheck c v d) _ (n ∷ []) (then-second (idCheck b id) _ (n ∷ []) (sym (o .answer)))))
+
+  first-places : (l : List ℕ) (k : ℕ) (s s′ : List ℕ) → length l ≡ k → s′ ≡ unlessRefused (readReply b id c v d) (filled l s) s → take k s′ ≡ l
+  first-places l k s s′ e p =
+      ap (take k) (p ∙ ap (λ (u : Reply). unlessRefused u (filled l s) s) (sym (o .answer))) ∙ take-at l (drop (length l) s) k e
+
+  -- the first places hold the rules of the list with that id, two entries of the care and of the value slice to a rule
+  pub read-cares : take (n * 2) c′ ≡ caresOf (rulesNamed id (listsOf b))
+  read-cares =
+      let rs : List Rule = listWith b id in
+      first-places (caresOf rs) (n * 2) c c′ (length-words careOf rs ∙ ap (λ (k : ℕ). k * 2) (ap length (list-named b id) ∙ read-size)) (o .cares)
+      ∙ ap caresOf (list-named b id)
+
+  pub read-values : take (n * 2) v′ ≡ valuesOf (rulesNamed id (listsOf b))
+  read-values =
+      let rs : List Rule = listWith b id in
+      first-places (valuesOf rs) (n * 2) v v′ (length-words valueOf rs ∙ ap (λ (k : ℕ). k * 2) (ap length (list-named b id) ∙ read-size)) (o .values)
+      ∙ ap valuesOf (list-named b id)
+
+  pub read-decisions : take n d′ ≡ decisionsOf (rulesNamed id (listsOf b))
+  read-decisions =
+      let rs : List Rule = listWith b id in
+      first-places (decisionsOf rs) n d d′ (length-column decisionOf rs ∙ ap length (list-named b id) ∙ read-size) (o .decisions)
+      ∙ ap decisionsOf (list-named b id)
+
+  pub read-rules : rulesOf (take (n * 2) c′) (take (n * 2) v′) (take n d′) ≡ rulesNamed id (listsOf b)
+  read-rules = (λ j. rulesOf (read-cares j) (read-values j) (read-decisions j)) ∙ rules-columns (rulesNamed id (listsOf b))
+
+-- ---- the lists that are given, one by one
+
+-- the list at place k has the id and the count at place k, and the rules after those of the lists before it
+pub cut-at : (ids ns : List ℕ) (rs : List Rule) (k : ℕ) → length ns ≡ length ids → k < length ids
+    → listAt (cut ids ns rs) k ≡ named (getD ids k 0) (take (getD ns k 0) (drop (sumOf (take k ns)) rs))
+unfolding cut sumOf
+cut-at [] ns rs k e h = absurd (omega arith)
+cut-at (i ∷ is) [] rs k e h = absurd (omega arith)
+cut-at (i ∷ is) (n ∷ ns) rs zero e h = refl
+cut-at (i ∷ is) (n ∷ ns) rs (suc k) e h =
+    cut-at is ns (drop n rs) k (omega arith) (omega arith)
+    ∙ ap (λ (l : List Rule). named (getD is k 0) (take (getD ns k 0) l)) (drop-drop (sumOf (take k ns)) n rs)
+
+pub cut-size : (ids ns : List ℕ) (rs : List Rule) (k : ℕ) → length ns ≡ length ids → k < length ids → sumOf ns ≤ length rs
+    → length (listAt (cut ids ns rs) k .rules) ≡ getD ns k 0
+unfolding cut sumOf
+cut-size [] ns rs k e h s = absurd (omega arith)
+cut-size (i ∷ is) [] rs k e h s = absurd (omega arith)
+cut-size (i ∷ is) (n ∷ ns) rs zero e h s = length-take-le n rs (omega arith)
+cut-size (i ∷ is) (n ∷ ns) rs (suc k) e h s = cut-size is ns (drop n rs) k (omega arith) (omega arith) (omega (arith, length-drop n rs))
