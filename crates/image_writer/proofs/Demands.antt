@@ -1,29 +1,35 @@
 -- What `write` and the calls that read promise together: what was written is read back, and what was read is written again, byte for byte.
 -- The hypotheses are the calls' promises and their answers, and of what is lent only what the types of the slices say.
-use mathlib.Core.Path.{_≡_, sym, ap, _∙_, subst}
+use mathlib.Core.Path.{_≡_, refl, sym, ap, _∙_, subst}
 use mathlib.Core.List.{List, [], _∷_}
 use Prim.Native.Nat.{ℕ, _+_, _*_, _≤_, _<_}
 use native.Mathlib.Omega.{arith}
-use lib.Dec.{leb}
+use lib.Dec.{leb, eqb}
 use lib.ListN.{length, getD, take, drop, length-append, length-drop}
 use lib.Seq.{take-at, drop-at}
-use Rattle.rules.specs.Slices.{rulesOf}
-use Rattle.rules.specs.Replies.{Reply, Gives, passed, need, unlessRefused}
+use Rattle.rules.specs.Rule.{Rule}
+use Rattle.rules.specs.Slices.{rulesOf, Lent}
+use Rattle.rules.specs.Replies.{Reply, Gives, passed, need, _then_, unlessRefused}
 use Rattle.rules.specs.Checks.{lengthsCheck, roomCheck}
 use Rattle.rules.proofs.ReplyLaws.{then-next, then-second, one-value}
+use Rattle.rules.proofs.SliceLaws.{rules-length, rules-columns}
 use Rattle.image.specs.declared.Outcome.{Outcome}
+use Rattle.image.specs.Formats.{formatCheck, rangeCheck}
 use Rattle.image.specs.Images.{Named, formatIn, widthIn, countIn, listsOf, bytesOf}
 use Rattle.image.specs.Checks.{listsCheck, imageCheck}
-use Rattle.image.specs.Calls.{formatReply, widthReply, countReply, entryReply, readReply, ReadOut}
+use Rattle.image.specs.Calls.{formatReply, widthReply, countReply, entryReply, readReply, ReadOut, caresOf, valuesOf, decisionsOf}
 use Rattle.image.proofs.BareLaws.{Bare, bare-need, bare-then, bare-first}
+use Rattle.image.proofs.BackLaws.{AreBytes}
 use Rattle.image.proofs.Theorems.{rulesNamed}
 use Rattle.image.proofs.Unique.{one-outcome}
-use Rattle.image_writer.specs.Writing.{sumOf, given, namesCheck, imageLength, shapeCheck, writeCheck, writeReply, imaged, Written}
+use Rattle.image_writer.specs.Writing.{sumOf, cut, given, namesCheck, imageLength, givenCheck, shapeCheck, writeCheck, writeReply, imaged, Written}
 use Rattle.image_writer.proofs.WriteLaws.{WriteFacts, write-facts, length-cut, rules-given, length-image}
 use Rattle.image_writer.proofs.AgainLaws.{Rising}
-use Rattle.image_writer.proofs.CarryLaws.{facts-carried}
-use Rattle.image_writer.proofs.ListLaws.{listAt, named-at, entry-gives, read-gives, read-size, read-rules, cut-at, cut-size}
-use Rattle.image_writer.proofs.Theorems.{AreIds, written-accepted, written-lists}
+use Rattle.image_writer.proofs.CarryLaws.{facts-carried, namesOf, countsOf, joined}
+use Rattle.image_writer.proofs.ListLaws.{listAt, named-at, entry-gives, read-gives, read-size, read-rules, cut-at, cut-size, Laid, laid-rules, columns-lent, laid-lent}
+use Rattle.image_writer.proofs.CollectLaws.{Collected, ReadWhole, lent-passes, collected-from, rises, whole-passes, whole-head}
+use Rattle.image_writer.proofs.Theorems.{AreIds, written-accepted, written-lists, rewritten}
+use Rattle.image_writer.proofs.Unique.{write-once}
 
 -- ---- written, and read back
 
@@ -101,6 +107,9 @@ module _ (f w : ℕ) (ids ns cs vs ds out out′ : List ℕ) (n : ℕ) (a : AreI
     sym (read-size (take n out′) id c v d m c′ v′ d′ o) ∙ ap (λ (l : List Named). length (rulesNamed id l)) lists,
   )
 
+  given-rises : Rising 0 (given ids ns cs vs ds)
+  given-rises = facts-carried f w ids ns cs vs ds (length out) a facts .rising
+
   -- The list of the id at place k of the ids, counted from 0.
   module _ (k : ℕ) (h : k < length ids) where
     at-id : listAt (given ids ns cs vs ds) k .id ≡ getD ids k 0
@@ -117,8 +126,7 @@ module _ (f w : ℕ) (ids ns cs vs ds out out′ : List ℕ) (n : ℕ) (a : AreI
     names-it : rulesNamed (getD ids k 0) (given ids ns cs vs ds) ≡ listAt (given ids ns cs vs ds) k .rules
     names-it =
         let ls : List Named = given ids ns cs vs ds in
-        let up : Rising 0 ls = facts-carried f w ids ns cs vs ds (length out) a facts .rising in
-        ap (λ (i : ℕ). rulesNamed i ls) (sym at-id) ∙ named-at 0 ls k up (omega (arith, length-cut ids ns (rulesOf cs vs ds) (facts .shape .paired)))
+        ap (λ (i : ℕ). rulesNamed i ls) (sym at-id) ∙ named-at 0 ls k given-rises (omega (arith, length-cut ids ns (rulesOf cs vs ds) (facts .shape .paired)))
 
     -- The rules given for it: as many as the count at place k says, after those of the counts before it.
     pub written-part : rulesNamed (getD ids k 0) (given ids ns cs vs ds) ≡ take (getD ns k 0) (drop (sumOf (take k ns)) (rulesOf cs vs ds))
@@ -138,9 +146,9 @@ module _ (f w : ℕ) (ids ns cs vs ds out out′ : List ℕ) (n : ℕ) (a : AreI
     pub written-found : (c v d : List ℕ) → lengthsCheck c v d ≡ passed → length (rulesNamed (getD ids k 0) (given ids ns cs vs ds)) ≤ length d
         → readReply (take n out′) (getD ids k 0) c v d ≡ Gives (length (rulesNamed (getD ids k 0) (given ids ns cs vs ds)) ∷ [])
     written-found c v d l =
-        subst (λ (i : ℕ). length (rulesNamed i (given ids ns cs vs ds)) ≤ length d → readReply (take n out′) i c v d ≡ Gives (length (rulesNamed i (given ids ns cs vs ds)) ∷ [])) at-id
-        (subst (λ (x : List Named). length (rulesNamed (listAt x k .id) x) ≤ length d → readReply (take n out′) (listAt x k .id) c v d ≡ Gives (length (rulesNamed (listAt x k .id) x) ∷ [])) lists
-        (read-gives (take n out′) k written-passes below c v d l))
+        let id : ℕ = getD ids k 0 in
+        subst (λ (x : List Named). length (rulesNamed id x) ≤ length d → readReply (take n out′) id c v d ≡ Gives (length (rulesNamed id x) ∷ [])) lists
+        (read-gives (take n out′) k written-passes below id (sym (ap (λ (x : List Named). listAt x k .id) lists ∙ at-id)) c v d l)
 
     -- Written, then read: the answer is the count given for the id, and the first places of the slices hold the rules given for it.
     pub written-list : (c v d c′ v′ d′ : List ℕ) (r : Outcome) → lengthsCheck c v d ≡ passed → getD ns k 0 ≤ length d
@@ -153,3 +161,80 @@ module _ (f w : ℕ) (ids ns cs vs ds out out′ : List ℕ) (n : ℕ) (a : AreI
         one-outcome r (Outcome.Number m) (o .answer ∙ written-found c v d l (omega (arith, part-size)) ∙ ap (λ (i : ℕ). Gives (i ∷ [])) part-size) in
         let told : ReadOut (take n out′) (getD ids k 0) c v d (Outcome.Number m) c′ v′ d′ = rw answer at o in
         (answer, written-reads (getD ids k 0) c v d c′ v′ d′ m told .0 ∙ written-part)
+
+-- ---- read, and written again
+
+-- The image again: the answer is its length, the bytes start with it, and later bytes are as they were.
+abbrev pub Again : (b out : List ℕ) → (r : Outcome) → (out′ : List ℕ) → Type 0
+Again b out r out′ = (r ≡ Outcome.Number (length b)) × (take (length b) out′ ≡ b) × (drop (length b) out′ ≡ drop (length b) out)
+
+-- the writer goes by the rules: slices that belong together and hold the same rules are written alike
+module _ (f w : ℕ) (ids ns c v d cs vs ds out : List ℕ) (l : Lent c v d) (m : Lent cs vs ds) (e : rulesOf c v d ≡ rulesOf cs vs ds) where
+  same-reply : writeReply f w ids ns c v d out ≡ writeReply f w ids ns cs vs ds out
+  unfolding writeReply writeCheck shapeCheck givenCheck
+  same-reply =
+      let p : lengthsCheck c v d ≡ lengthsCheck cs vs ds = lent-passes c v d l ∙ sym (lent-passes cs vs ds m) in
+      let q : length d ≡ length ds = sym (rules-length c v d l) ∙ ap length e ∙ rules-length cs vs ds m in
+      λ j. ((formatCheck f
+      then rangeCheck f w
+      then (need (eqb (length ids) (length ns)) 2 0 0 then p j then need (eqb (sumOf ns) (q j)) 2 0 0)
+      then need (leb 1 (length ids)) 12 0 0
+      then need (leb (length ids) 16) 12 0 0)
+      then namesCheck 1 0 ids ns
+      then listsCheck w 1 (cut ids ns (e j))
+      then need (leb (imageLength f (length ids) (q j)) 65536) 10 0 0
+      then roomCheck (imageLength f (length ids) (q j)) (length out))
+      then Gives (imageLength f (length ids) (q j) ∷ [])
+
+  same-written : (r : Outcome) (out′ : List ℕ) → Written f w ids ns c v d out r out′ → Written f w ids ns cs vs ds out r out′
+  same-written r out′ W =
+      record {
+        answer = W .answer ∙ same-reply;
+        bytes = W .bytes ∙ (λ j. unlessRefused (same-reply j) (imaged (bytesOf f w (cut ids ns (e j))) out) out);
+      }
+
+-- An accepted image.
+module _ (b : List ℕ) (h : AreBytes b) (f : imageCheck b ≡ passed) where
+  -- What a caller collects of all entries is the ids, the counts and the rules of the image's lists.
+  pub collected-lists : (ids ns cs vs ds : List ℕ) → Collected b 1 ids ns cs vs ds → length ids ≡ countIn b
+      → (ids ≡ namesOf (listsOf b)) × (ns ≡ countsOf (listsOf b)) × (rulesOf cs vs ds ≡ joined (listsOf b)) × Lent cs vs ds
+  collected-lists ids ns cs vs ds k e =
+      let l : Laid (listsOf b) ids ns cs vs ds = collected-from b f (rises b h f) 0 1 ids ns cs vs ds k refl (omega arith) in
+      (l .names, l .counts, laid-rules (listsOf b) ids ns cs vs ds l, laid-lent (listsOf b) ids ns cs vs ds l)
+
+  -- Where `write` is given the format, the width and the lists of an image, there is no result but the image again.
+  pub rewritten-bytes : (out out′ : List ℕ) (r : Outcome) → length b ≤ length out
+      → Written (formatIn b) (widthIn b) (namesOf (listsOf b)) (countsOf (listsOf b)) (caresOf (joined (listsOf b))) (valuesOf (joined (listsOf b))) (decisionsOf (joined (listsOf b))) out r out′
+      → Again b out r out′
+  rewritten-bytes out out′ r room W =
+      let rs : List Rule = joined (listsOf b) in
+      let e = write-once (formatIn b) (widthIn b) (namesOf (listsOf b)) (countsOf (listsOf b)) (caresOf rs) (valuesOf rs) (decisionsOf rs) out r (Outcome.Number (length b)) out′ (imaged b out)
+      W (rewritten b out h f room) in
+      (e .0, ap (take (length b)) (e .1) ∙ take-at b (drop (length b) out) (length b) refl, ap (drop (length b)) (e .1) ∙ drop-at b (drop (length b) out) (length b) refl)
+
+  -- The same of any slices that belong together and hold the rules of its lists one after the other.
+  pub rewritten-rules : (cs vs ds out out′ : List ℕ) (r : Outcome) → Lent cs vs ds → rulesOf cs vs ds ≡ joined (listsOf b) → length b ≤ length out
+      → Written (formatIn b) (widthIn b) (namesOf (listsOf b)) (countsOf (listsOf b)) cs vs ds out r out′ → Again b out r out′
+  rewritten-rules cs vs ds out out′ r l e room W =
+      let ls : List Named = listsOf b in
+      let rs : List Rule = joined ls in
+      rewritten-bytes out out′ r room
+      (same-written (formatIn b) (widthIn b) (namesOf ls) (countsOf ls) cs vs ds (caresOf rs) (valuesOf rs) (decisionsOf rs) out l (columns-lent rs) (e ∙ sym (rules-columns rs)) r out′ W)
+
+-- An image that a caller read whole.
+module _ (b : List ℕ) (f w : ℕ) (ids ns cs vs ds : List ℕ) (h : AreBytes b) (R : ReadWhole b f w ids ns cs vs ds) where
+  -- Read, then written: the format, the width, the ids and the counts that were told, and slices that belong together and hold the rules
+  -- that were read, give the image's bytes.
+  pub rewritten-from-rules : (c v d out out′ : List ℕ) (r : Outcome) → Lent c v d → rulesOf c v d ≡ rulesOf cs vs ds → length b ≤ length out
+      → Written f w ids ns c v d out r out′ → Again b out r out′
+  rewritten-from-rules c v d out out′ r l e room W =
+      let k = whole-passes b f w ids ns cs vs ds R in
+      let head = whole-head b f w ids ns cs vs ds R in
+      let all = collected-lists b h k ids ns cs vs ds (R .lists) (head .2) in
+      rewritten-rules b h k c v d out out′ r l (e ∙ all .2) room (rw (head .0, head .1, all .0, all .1) at W)
+
+  -- So do the slices as they were collected.
+  pub rewritten-by-calls : (out out′ : List ℕ) (r : Outcome) → length b ≤ length out → Written f w ids ns cs vs ds out r out′ → Again b out r out′
+  rewritten-by-calls out out′ r room W =
+      let all = collected-lists b h (whole-passes b f w ids ns cs vs ds R) ids ns cs vs ds (R .lists) (whole-head b f w ids ns cs vs ds R .2) in
+      rewritten-from-rules cs vs ds out out′ r (all .3) refl room W

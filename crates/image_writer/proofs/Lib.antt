@@ -5,6 +5,7 @@ pub mod WriteLaws
 pub mod AgainLaws
 pub mod CarryLaws
 pub mod ListLaws
+pub mod CollectLaws
 pub mod Theorems
 pub mod Demands
 pub mod Unique

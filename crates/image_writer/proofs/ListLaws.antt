@@ -1,15 +1,17 @@
 -- The lists of an image one by one: what `entry` and `read` give of each, and which part of the rules given to `write` each is.
-use mathlib.Core.Path.{_≡_, refl, sym, ap, _∙_}
-use mathlib.Core.List.{List, [], _∷_}
+use mathlib.Core.Path.{_≡_, refl, sym, ap, ap₂, _∙_}
+use mathlib.Core.List.{List, [], _∷_, _++_, map, map-append}
 use mathlib.Core.Bool.{Bool, true, false}
 use Prim.Native.Nat.{ℕ, zero, suc, _+_, _-_, _*_, _≤_, _<_}
 use native.Mathlib.Omega.{arith}
 use lib.Dec.{eqb}
-use lib.ListN.{length, getD, take, drop, length-drop}
+use lib.ListN.{length, getD, take, drop, length-drop, take-append-drop}
 use lib.Seq.{length-take-le, take-at, drop-drop}
 use borrow.Author.Tests.{eq-eqb, ne-eqb, le-leb}
+use Rattle.words.specs.Slices.{halvesOf}
+use Rattle.words.proofs.SliceLaws.{halves-append}
 use Rattle.rules.specs.Rule.{Rule}
-use Rattle.rules.specs.Slices.{rulesOf}
+use Rattle.rules.specs.Slices.{rulesOf, Lent}
 use Rattle.rules.specs.Replies.{Reply, Gives, passed, unlessRefused}
 use Rattle.rules.specs.Checks.{lengthsCheck, roomCheck}
 use Rattle.rules.proofs.ReplyLaws.{then-next, then-second, need-yes, one-value}
@@ -26,7 +28,7 @@ use Rattle.image.proofs.PassedLaws.{length-with}
 use Rattle.image.proofs.Theorems.{rulesNamed, list-named}
 use Rattle.image_writer.specs.Writing.{sumOf, cut}
 use Rattle.image_writer.proofs.AgainLaws.{Rising}
-use Rattle.image_writer.proofs.CarryLaws.{length-column, length-words}
+use Rattle.image_writer.proofs.CarryLaws.{namesOf, countsOf, joined, length-column, length-words}
 
 -- the list at place k, counted from 0; a list of no rules past the end
 abbrev pub listAt : List Named → (k : ℕ) → Named
@@ -97,13 +99,12 @@ module _ (b : List ℕ) (k : ℕ) where
         ∙ (λ j. Gives (sym (at-entry .0) j ∷ sym (at-entry .1) j ∷ []))
 
     -- `read` with that id, into slices that belong together and have room, gives the number of rules
-    pub read-gives : (c v d : List ℕ) → lengthsCheck c v d ≡ passed → length (rulesNamed (listAt (listsOf b) k .id) (listsOf b)) ≤ length d
-        → readReply b (listAt (listsOf b) k .id) c v d ≡ Gives (length (rulesNamed (listAt (listsOf b) k .id) (listsOf b)) ∷ [])
+    pub read-gives : (id : ℕ) → id ≡ listAt (listsOf b) k .id → (c v d : List ℕ) → lengthsCheck c v d ≡ passed → length (rulesNamed id (listsOf b)) ≤ length d
+        → readReply b id c v d ≡ Gives (length (rulesNamed id (listsOf b)) ∷ [])
     unfolding readReply idCheck
-    read-gives c v d l room =
-        let id : ℕ = listAt (listsOf b) k .id in
+    read-gives id e c v d l room =
         let size : placeOf b id .count ≡ length (rulesNamed id (listsOf b)) = sym (length-with b id) ∙ ap length (list-named b id) in
-        then-next _ _ (then-next _ _ f ∙ need-yes _ 15 0 0 (at-found h))
+        then-next _ _ (then-next _ _ f ∙ need-yes _ 15 0 0 (ap (λ (i : ℕ). placeOf b i .found) e ∙ at-found h))
         ∙ then-next _ _ l
         ∙ then-next _ _ (room-yes _ _ (omega arith))
         ∙ ap (λ (n : ℕ). Gives (n ∷ [])) size
@@ -111,13 +112,16 @@ module _ (b : List ℕ) (k : ℕ) where
 -- ---- what is in the slices after a read that came out
 
 module _ (b : List ℕ) (id : ℕ) (c v d : List ℕ) (n : ℕ) (c′ v′ d′ : List ℕ) (o : ReadOut b id c v d (Outcome.Number n) c′ v′ d′) where
-  -- the answer is the number of rules
-  pub read-size : length (rulesNamed id (listsOf b)) ≡ n
+  size-with : length (listWith b id) ≡ n
   unfolding readReply
-  read-size =
-      ap length (sym (list-named b id)) ∙ length-with b id
+  size-with =
+      length-with b id
       ∙ one-value (then-second (roomCheck (placeOf b id .count) (length d)) _ (n ∷ [])
       (then-second (lengthsCheck c v d) _ (n ∷ []) (then-second (idCheck b id) _ (n ∷ []) (sym (o .answer)))))
+
+  -- the answer is the number of rules
+  pub read-size : length (rulesNamed id (listsOf b)) ≡ n
+  read-size = ap length (sym (list-named b id)) ∙ size-with
 
   first-places : (l : List ℕ) (k : ℕ) (s s′ : List ℕ) → length l ≡ k → s′ ≡ unlessRefused (readReply b id c v d) (filled l s) s → take k s′ ≡ l
   first-places l k s s′ e p =
@@ -127,19 +131,19 @@ module _ (b : List ℕ) (id : ℕ) (c v d : List ℕ) (n : ℕ) (c′ v′ d′ 
   pub read-cares : take (n * 2) c′ ≡ caresOf (rulesNamed id (listsOf b))
   read-cares =
       let rs : List Rule = listWith b id in
-      first-places (caresOf rs) (n * 2) c c′ (length-words careOf rs ∙ ap (λ (k : ℕ). k * 2) (ap length (list-named b id) ∙ read-size)) (o .cares)
+      first-places (caresOf rs) (n * 2) c c′ (length-words careOf rs ∙ ap (λ (k : ℕ). k * 2) size-with) (o .cares)
       ∙ ap caresOf (list-named b id)
 
   pub read-values : take (n * 2) v′ ≡ valuesOf (rulesNamed id (listsOf b))
   read-values =
       let rs : List Rule = listWith b id in
-      first-places (valuesOf rs) (n * 2) v v′ (length-words valueOf rs ∙ ap (λ (k : ℕ). k * 2) (ap length (list-named b id) ∙ read-size)) (o .values)
+      first-places (valuesOf rs) (n * 2) v v′ (length-words valueOf rs ∙ ap (λ (k : ℕ). k * 2) size-with) (o .values)
       ∙ ap valuesOf (list-named b id)
 
   pub read-decisions : take n d′ ≡ decisionsOf (rulesNamed id (listsOf b))
   read-decisions =
       let rs : List Rule = listWith b id in
-      first-places (decisionsOf rs) n d d′ (length-column decisionOf rs ∙ ap length (list-named b id) ∙ read-size) (o .decisions)
+      first-places (decisionsOf rs) n d d′ (length-column decisionOf rs ∙ size-with) (o .decisions)
       ∙ ap decisionsOf (list-named b id)
 
   pub read-rules : rulesOf (take (n * 2) c′) (take (n * 2) v′) (take n d′) ≡ rulesNamed id (listsOf b)
@@ -147,7 +151,7 @@ module _ (b : List ℕ) (id : ℕ) (c v d : List ℕ) (n : ℕ) (c′ v′ d′ 
 
 -- ---- the lists that are given, one by one
 
--- the list at place k has the id and the count at place k, and the rules after those of the lists before it
+-- the list at place k has the id at place k, and as many rules as the count there says, after those of the counts before it
 pub cut-at : (ids ns : List ℕ) (rs : List Rule) (k : ℕ) → length ns ≡ length ids → k < length ids
     → listAt (cut ids ns rs) k ≡ named (getD ids k 0) (take (getD ns k 0) (drop (sumOf (take k ns)) rs))
 unfolding cut sumOf
@@ -158,6 +162,7 @@ cut-at (i ∷ is) (n ∷ ns) rs (suc k) e h =
     cut-at is ns (drop n rs) k (omega arith) (omega arith)
     ∙ ap (λ (l : List Rule). named (getD is k 0) (take (getD ns k 0) l)) (drop-drop (sumOf (take k ns)) n rs)
 
+-- where the counts do not go past the rules, it has no fewer
 pub cut-size : (ids ns : List ℕ) (rs : List Rule) (k : ℕ) → length ns ≡ length ids → k < length ids → sumOf ns ≤ length rs
     → length (listAt (cut ids ns rs) k .rules) ≡ getD ns k 0
 unfolding cut sumOf
@@ -165,3 +170,65 @@ cut-size [] ns rs k e h s = absurd (omega arith)
 cut-size (i ∷ is) [] rs k e h s = absurd (omega arith)
 cut-size (i ∷ is) (n ∷ ns) rs zero e h s = length-take-le n rs (omega arith)
 cut-size (i ∷ is) (n ∷ ns) rs (suc k) e h s = cut-size is ns (drop n rs) k (omega arith) (omega arith) (omega (arith, length-drop n rs))
+
+-- ids, counts and rules that were cut into lists are those of the lists
+pub cut-back : (ids ns : List ℕ) (rs : List Rule) → length ns ≡ length ids → sumOf ns ≡ length rs
+    → (namesOf (cut ids ns rs) ≡ ids) × (countsOf (cut ids ns rs) ≡ ns) × (joined (cut ids ns rs) ≡ rs)
+unfolding cut sumOf
+cut-back [] [] [] e s = (refl, refl, refl)
+cut-back [] [] (r ∷ rs) e s = absurd (omega arith)
+cut-back [] (n ∷ ns) rs e s = absurd (omega arith)
+cut-back (i ∷ is) [] rs e s = absurd (omega arith)
+cut-back (i ∷ is) (n ∷ ns) rs e s =
+    let more = cut-back is ns (drop n rs) (omega arith) (omega (arith, length-drop n rs)) in (
+      ap (λ (l : List ℕ). i ∷ l) (more .0),
+      ap₂ (λ (m : ℕ) (l : List ℕ). m ∷ l) (length-take-le n rs (omega arith)) (more .1),
+      ap (λ (l : List Rule). take n rs ++ l) (more .2) ∙ take-append-drop n rs,
+    )
+
+-- ---- lists one after the other
+
+-- ids, counts and slices that hold these lists
+pub record Laid (ls : List Named) (ids ns cs vs ds : List ℕ) : Type 0 where
+  pub names : ids ≡ namesOf ls
+  pub counts : ns ≡ countsOf ls
+  pub cares : cs ≡ caresOf (joined ls)
+  pub values : vs ≡ valuesOf (joined ls)
+  pub decisions : ds ≡ decisionsOf (joined ls)
+
+-- the rules in the slices
+pub laid-rules : (ls : List Named) (ids ns cs vs ds : List ℕ) → Laid ls ids ns cs vs ds → rulesOf cs vs ds ≡ joined ls
+laid-rules ls ids ns cs vs ds l = (λ j. rulesOf (l .cares j) (l .values j) (l .decisions j)) ∙ rules-columns (joined ls)
+
+-- the slices that hold given rules belong together
+pub columns-lent : (rs : List Rule) → Lent (caresOf rs) (valuesOf rs) (decisionsOf rs)
+columns-lent rs =
+    let c : length (caresOf rs) ≡ length rs * 2 = length-words careOf rs in
+    record { values = length-words valueOf rs ∙ sym c; decisions = ap (λ (k : ℕ). k * 2) (length-column decisionOf rs) ∙ sym c }
+
+-- so do slices that hold lists
+pub laid-lent : (ls : List Named) (ids ns cs vs ds : List ℕ) → Laid ls ids ns cs vs ds → Lent cs vs ds
+laid-lent ls ids ns cs vs ds l =
+    let m = columns-lent (joined ls) in
+    let c : length cs ≡ length (caresOf (joined ls)) = ap length (l .cares) in
+    record { values = ap length (l .values) ∙ m .values ∙ sym c; decisions = ap (λ (d : List ℕ). length d * 2) (l .decisions) ∙ m .decisions ∙ sym c }
+
+words-join : (g : Rule → ℕ) (xs ys : List Rule) → halvesOf (map g (xs ++ ys)) ≡ halvesOf (map g xs) ++ halvesOf (map g ys)
+words-join g xs ys = ap halvesOf (map-append g xs ys) ∙ halves-append (map g xs) (map g ys)
+
+-- no lists
+pub laid-none : Laid [] [] [] [] [] []
+unfolding halvesOf
+laid-none = record { names = refl; counts = refl; cares = refl; values = refl; decisions = refl }
+
+-- a list before others
+pub laid-more : (l : Named) (ls : List Named) (id n : ℕ) (c v d ids ns cs vs ds : List ℕ) → id ≡ l .id → n ≡ length (l .rules)
+    → c ≡ caresOf (l .rules) → v ≡ valuesOf (l .rules) → d ≡ decisionsOf (l .rules) → Laid ls ids ns cs vs ds → Laid (l ∷ ls) (id ∷ ids) (n ∷ ns) (c ++ cs) (v ++ vs) (d ++ ds)
+laid-more l ls id n c v d ids ns cs vs ds i m p q s more =
+    record {
+      names = ap₂ (λ (x : ℕ) (xs : List ℕ). x ∷ xs) i (more .names);
+      counts = ap₂ (λ (x : ℕ) (xs : List ℕ). x ∷ xs) m (more .counts);
+      cares = ap₂ (λ (x y : List ℕ). x ++ y) p (more .cares) ∙ sym (words-join careOf (l .rules) (joined ls));
+      values = ap₂ (λ (x y : List ℕ). x ++ y) q (more .values) ∙ sym (words-join valueOf (l .rules) (joined ls));
+      decisions = ap₂ (λ (x y : List ℕ). x ++ y) s (more .decisions) ∙ sym (map-append decisionOf (l .rules) (joined ls));
+    }
