@@ -7,12 +7,13 @@ use native.Mathlib.Omega.{arith}
 use lib.Dec.{leb, eqb}
 use lib.ListN.{length, getD, take, drop, length-append, length-drop}
 use lib.Seq.{take-at, drop-at}
+use Rattle.words.proofs.SliceLaws.{Machine}
 use Rattle.rules.specs.Rule.{Rule}
 use Rattle.rules.specs.Slices.{rulesOf, Lent}
 use Rattle.rules.specs.Replies.{Reply, Gives, passed, need, _then_, unlessRefused}
 use Rattle.rules.specs.Checks.{lengthsCheck, roomCheck}
 use Rattle.rules.proofs.ReplyLaws.{then-next, then-second, one-value}
-use Rattle.rules.proofs.SliceLaws.{rules-length, rules-columns}
+use Rattle.rules.proofs.SliceLaws.{rules-length, rules-columns, rules-care, rules-value, rules-decision}
 use Rattle.image.specs.declared.Outcome.{Outcome}
 use Rattle.image.specs.Formats.{formatCheck, rangeCheck}
 use Rattle.image.specs.Images.{Named, formatIn, widthIn, countIn, listsOf, bytesOf}
@@ -26,8 +27,8 @@ use Rattle.image_writer.specs.Writing.{sumOf, cut, given, namesCheck, im
 use Rattle.image_writer.proofs.WriteLaws.{WriteFacts, write-facts, length-cut, rules-given, length-image}
 use Rattle.image_writer.proofs.AgainLaws.{Rising}
 use Rattle.image_writer.proofs.CarryLaws.{facts-carried, namesOf, countsOf, joined}
-use Rattle.image_writer.proofs.ListLaws.{listAt, named-at, entry-gives, read-gives, read-size, read-rules, cut-at, cut-size, Laid, laid-rules, columns-lent, laid-lent}
-use Rattle.image_writer.proofs.CollectLaws.{Collected, ReadWhole, lent-passes, collected-from, rises, whole-passes, whole-head}
+use Rattle.image_writer.proofs.ListLaws.{listAt, named-at, entry-gives, read-gives, read-size, read-rules, cut-at, cut-size, cut-back, Laid, laid-rules, columns-lent, laid-lent}
+use Rattle.image_writer.proofs.CollectLaws.{Collected, ReadWhole, lent-passes, collected-from, rises, whole-passes, whole-head, whole-lists}
 use Rattle.image_writer.proofs.Theorems.{AreIds, written-accepted, written-lists, rewritten}
 use Rattle.image_writer.proofs.Unique.{write-once}
 
@@ -109,6 +110,29 @@ module _ (f w : ℕ) (ids ns cs vs ds out out′ : List ℕ) (n : ℕ) (a : AreI
 
   given-rises : Rising 0 (given ids ns cs vs ds)
   given-rises = facts-carried f w ids ns cs vs ds (length out) a facts .rising
+
+  back : (namesOf (given ids ns cs vs ds) ≡ ids) × (countsOf (given ids ns cs vs ds) ≡ ns) × (joined (given ids ns cs vs ds) ≡ rulesOf cs vs ds)
+  back = cut-back ids ns (rulesOf cs vs ds) (facts .shape .paired) (facts .shape .sums ∙ sym (rules-given f w ids ns cs vs ds (facts .shape)))
+
+  -- Whoever reads the written bytes whole.
+  module _ (f′ w′ : ℕ) (ids′ ns′ cs′ vs′ ds′ : List ℕ) (R : ReadWhole (take n out′) f′ w′ ids′ ns′ cs′ vs′ ds′) where
+    laid : Laid (given ids ns cs vs ds) ids′ ns′ cs′ vs′ ds′
+    laid = rw lists at (whole-lists (take n out′) f′ w′ ids′ ns′ cs′ vs′ ds′ R (rw lists given-rises))
+
+    -- Written, then read: the format, the width, the ids, the counts and the rules that were given.
+    pub written-whole : (f′ ≡ f) × (w′ ≡ w) × (ids′ ≡ ids) × (ns′ ≡ ns) × (rulesOf cs′ vs′ ds′ ≡ rulesOf cs vs ds)
+    written-whole =
+        let head = whole-head (take n out′) f′ w′ ids′ ns′ cs′ vs′ ds′ R in
+        (head .0 ∙ head-is .0, head .1 ∙ head-is .1, laid .names ∙ back .0, laid .counts ∙ back .1, laid-rules (given ids ns cs vs ds) ids′ ns′ cs′ vs′ ds′ laid ∙ back .2)
+
+    -- The slices too are those that were given, where these are slices of machine words.
+    pub written-slices : Machine cs → Machine vs → (cs′ ≡ cs) × (vs′ ≡ vs) × (ds′ ≡ ds)
+    written-slices c v =
+        let l : Lent cs vs ds = facts .shape .lent in (
+          laid .cares ∙ ap caresOf (back .2) ∙ rules-care cs vs ds l c,
+          laid .values ∙ ap valuesOf (back .2) ∙ rules-value cs vs ds l v,
+          laid .decisions ∙ ap decisionsOf (back .2) ∙ rules-decision cs vs ds l,
+        )
 
   -- The list of the id at place k of the ids, counted from 0.
   module _ (k : ℕ) (h : k < length ids) where
