@@ -21,12 +21,13 @@ use Rattle.rules.specs.Checks.{widthCheck, listCheck, headerCheck, roomCheck}
 use Rattle.rules.specs.Calls.{checkList, answered, lookedUp}
 use Rattle.rules.proofs.ReplyLaws.{then-second, gives-refuses}
 use Rattle.rules.proofs.ZipLaws.{ap₃}
-use Rattle.rules.proofs.AnswerLaws.{list-given, list-renamed, looked-answered, replies-differ}
+use Rattle.rules.proofs.CheckLaws.{list-given}
+use Rattle.rules.proofs.AnswerLaws.{list-renamed, looked-answered, replies-differ}
 use Rattle.compare.specs.declared.Ending.{Ending}
 use Rattle.compare.specs.declared.Compared.{Compared}
 use Rattle.compare.specs.Runs.{Run, run, differences, portion, ending}
 use Rattle.compare.specs.Demand.{IsRun, Rising, Stands, listedRuns}
-use Rattle.compare.specs.Calls.{endingReply, resultsCheck, portionCheck, compareCheck, Outcome, Comparison}
+use Rattle.compare.specs.Calls.{endingReply, resultsCheck, portionCheck, compareCheck, PortionDone, Comparison}
 use Rattle.compare.proofs.VerdictLaws.{in-order}
 use Rattle.compare.proofs.RunLaws.{rising-one}
 use Rattle.compare.proofs.Demands.{nothing-else, runs-rise, runs-longest, more-continues, more-names-a-difference, more-skips-nothing, refused-writes-nothing, whole-list, call-finishes}
@@ -45,7 +46,7 @@ written-read (r ∷ rs) first last old new =
 
 -- What is read after a call: a portion of the runs, and nothing after a refusal.
 outcome-read : (check : Reply) (rs : List Run) (first last old new first′ last′ old′ new′ : List ℕ) (r : Compared)
-    → Outcome check rs first last old new first′ last′ old′ new′ r
+    → PortionDone check rs first last old new first′ last′ old′ new′ r
     → listedRuns (r .count) first′ last′ old′ new′ ≡ unlessRefused check (portion (length old) rs) []
 outcome-read check rs first last old new first′ last′ old′ new′ r o =
     rw (o .count, o .firsts, o .lasts, o .olds, o .news) (written-read (unlessRefused check (portion (length old) rs) []) _ _ _ _)

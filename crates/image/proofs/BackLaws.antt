@@ -10,7 +10,7 @@ use lib.Seq.{drop-drop, take-add, take-all}
 use Rattle.rules.specs.Lists.{All}
 use Rattle.rules.specs.Replies.{passed}
 use Rattle.rules.proofs.ReplyLaws.{then-second}
-use Rattle.image.specs.Bytes.{le, num, part, bytes}
+use Rattle.image.specs.Bytes.{le, numberIn, part, bytes}
 use Rattle.image.specs.Formats.{wordBytes, ruleSize}
 use Rattle.image.specs.Images.{Named, Entry, entryWith, ruleIn, rulesIn, entryIn, entriesIn, listsIn, total, formatIn, countIn, widthIn, entriesOf, listsOf, ruleBytes, rulesBytes, bodiesBytes, entryBytes, entriesFor, contentsBytes, bytesOf}
 use Rattle.image.specs.Checks.{entryCheck, entriesCheck, contentsCheck, headCheck, imageCheck}
@@ -41,9 +41,9 @@ bytes-le [] h = refl
 bytes-le (b ∷ l) h =
     λ j. digits-mod (le l) (h .0) j ∷ (ap (bytes (length l)) (digits-div (le l) (h .0)) ∙ bytes-le l (h .1)) j
 
-bytes-num : (n p : ℕ) (s : List ℕ) → AreBytes s → p + n ≤ length s → bytes n (num n p s) ≡ part n p s
+bytes-num : (n p : ℕ) (s : List ℕ) → AreBytes s → p + n ≤ length s → bytes n (numberIn n p s) ≡ part n p s
 bytes-num n p s h fits =
-    ap (λ (k : ℕ). bytes k (num n p s)) (sym (length-part n p s fits))
+    ap (λ (k : ℕ). bytes k (numberIn n p s)) (sym (length-part n p s fits))
     ∙ bytes-le (part n p s) (bytes-take n (drop p s) (bytes-drop p s h))
 
 glue : (a b n : ℕ) (s : List ℕ) → n ≡ a + b → take a s ++ take b (drop a s) ≡ take n s

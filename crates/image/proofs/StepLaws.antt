@@ -17,7 +17,7 @@ use Rattle.rules.specs.Calls.{checkRule}
 use Rattle.words.proofs.Tests.{true-and}
 use Rattle.rules.proofs.ReplyLaws.{verdict-stop, fine-next, need-passed, then-next, then-second}
 use Rattle.rules.proofs.CheckLaws.{width-inside}
-use Rattle.image.specs.Bytes.{num}
+use Rattle.image.specs.Bytes.{numberIn}
 use Rattle.image.specs.Formats.{ruleSize}
 use Rattle.image.specs.Images.{Entry, ruleIn, rulesIn, entryIn, entriesIn, listsIn, total, formatIn, countIn, widthIn, entriesOf, listsOf}
 use Rattle.image.specs.Checks.{entryCheck, entriesCheck, listsCheck, contentsCheck, headCheck, bodiesCheck, imageCheck}
@@ -61,7 +61,7 @@ module _ (fmt w l r n at : ℕ) (b : List ℕ) where
 module _ (fmt size next least l n at : ℕ) (b : List ℕ) where
   entries-turn : 0 < n → entriesCheck fmt size next least l (entriesIn n (drop at b))
       ≡ (entryCheck fmt size next least l (entryIn (drop at b))
-      then entriesCheck fmt size (next + ruleSize fmt * num 2 (at + 4) b) (num 2 (at + 6) b + 1) (l + 1) (entriesIn (n - 1) (drop (at + 8) b)))
+      then entriesCheck fmt size (next + ruleSize fmt * numberIn 2 (at + 4) b) (numberIn 2 (at + 6) b + 1) (l + 1) (entriesIn (n - 1) (drop (at + 8) b)))
   unfolding entriesCheck
   entries-turn h =
       ap (entriesCheck fmt size next least l) (entries-step n (drop at b) h)
@@ -73,7 +73,7 @@ module _ (fmt size next least l n at : ℕ) (b : List ℕ) where
   entries-stop v h p q = entries-turn h ∙ verdict-stop v _ _ p q
 
   pub entries-pass : (v : Verdict) (count id step : ℕ) → 0 < n → verdictReply v ≡ entryCheck fmt size next least l (entryIn (drop at b)) → v ≡ Verdict.Fine
-      → count ≡ num 2 (at + 4) b → id ≡ num 2 (at + 6) b → step ≡ ruleSize fmt * count
+      → count ≡ numberIn 2 (at + 4) b → id ≡ numberIn 2 (at + 6) b → step ≡ ruleSize fmt * count
       → entriesCheck fmt size next least l (entriesIn n (drop at b))
       ≡ entriesCheck fmt size (next + step) (id + 1) (l + 1) (entriesIn (n - 1) (drop (at + 8) b))
   entries-pass v count id step h p q x y z =
@@ -91,7 +91,7 @@ module _ (fmt size next least l n at : ℕ) (b : List ℕ) where
 
 -- the body of an entry that passed is within the image
 pub next-fits : (fmt size next least l at : ℕ) (b : List ℕ) (v : Verdict) (count : ℕ) → verdictReply v ≡ entryCheck fmt size next least l (entryIn (drop at b)) → v ≡ Verdict.Fine
-    → count ≡ num 2 (at + 4) b → next + ruleSize fmt * count ≤ size
+    → count ≡ numberIn 2 (at + 4) b → next + ruleSize fmt * count ≤ size
 next-fits fmt size next least l at b v count p q e =
     omega (
       arith,
@@ -116,13 +116,13 @@ unfolding contentsCheck
 contents-total b f = entries-total (formatIn b) (length b) (4 + 8 * countIn b) 0 1 (entriesOf b) f
 
 pub total-step : (n at : ℕ) (b : List ℕ) → 0 < n
-    → total (entriesIn n (drop at b)) ≡ num 2 (at + 4) b + total (entriesIn (n - 1) (drop (at + 8) b))
+    → total (entriesIn n (drop at b)) ≡ numberIn 2 (at + 4) b + total (entriesIn (n - 1) (drop (at + 8) b))
 unfolding total
 total-step n at b h =
     ap total (entries-step n (drop at b) h) ∙ (λ j. num-in 2 at 4 b j + total (entriesIn (n - 1) (drop-drop 8 at b j)))
 
 -- the same in bytes
-pub size-step : (fmt n at count : ℕ) (b : List ℕ) → count ≡ num 2 (at + 4) b → 0 < n
+pub size-step : (fmt n at count : ℕ) (b : List ℕ) → count ≡ numberIn 2 (at + 4) b → 0 < n
     → ruleSize fmt * total (entriesIn n (drop at b)) ≡ ruleSize fmt * count + ruleSize fmt * total (entriesIn (n - 1) (drop (at + 8) b))
 size-step fmt n at count b e h =
     let rest : ℕ = total (entriesIn (n - 1) (drop (at + 8) b)) in
@@ -139,7 +139,7 @@ pub total-start : (b : List ℕ) (n : ℕ) → n ≡ countIn b → 4 + 8 * count
 unfolding entriesOf
 total-start b n e h = ap (λ (k : ℕ). 4 + 8 * k + ruleSize (formatIn b) * total (entriesIn k (drop 4 b))) e ∙ h
 
-module _ (fmt w l n at from count : ℕ) (b : List ℕ) (is : count ≡ num 2 (at + 4) b) where
+module _ (fmt w l n at from count : ℕ) (b : List ℕ) (is : count ≡ numberIn 2 (at + 4) b) where
   lists-turn : 0 < n → listsCheck w l (listsIn fmt (entriesIn n (drop at b)) (drop from b))
       ≡ (rulesCheck w l 1 (rulesIn fmt count (drop from b))
       then listsCheck w (l + 1) (listsIn fmt (entriesIn (n - 1) (drop (at + 8) b)) (drop (from + ruleSize fmt * count) b)))
@@ -150,7 +150,7 @@ module _ (fmt w l n at from count : ℕ) (b : List ℕ) (is : count ≡ num 2 (a
       then listsCheck w (l + 1) (listsIn fmt (entriesIn (n - 1) (drop-drop 8 at b j)) (drop (ruleSize fmt * same j) (drop from b))))
       ∙ ap (λ (s : List ℕ). rulesCheck w l 1 (rulesIn fmt count (drop from b)) then listsCheck w (l + 1) (listsIn fmt (entriesIn (n - 1) (drop (at + 8) b)) s)) (drop-drop (ruleSize fmt * count) from b)
     where
-      same : num 2 4 (drop at b) ≡ count
+      same : numberIn 2 4 (drop at b) ≡ count
       same = num-in 2 at 4 b ∙ sym is
 
   pub lists-stop : (v : Verdict) {x : Refusal} → 0 < n → verdictReply v ≡ rulesCheck w l 1 (rulesIn fmt count (drop from b)) → v ≡ Verdict.Refused x

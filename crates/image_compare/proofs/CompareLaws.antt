@@ -14,9 +14,9 @@ use Rattle.rules.proofs.ReplyLaws.{then-next, then-stop, then-second, need-yes,
 use Rattle.compare.specs.declared.Compared.{Compared}
 use Rattle.compare.specs.declared.Ending.{Ending}
 use Rattle.compare.specs.Runs.{Run, differences}
-use Rattle.compare.specs.Calls.{Outcome, portionCheck, compareCheck, Comparison}
+use Rattle.compare.specs.Calls.{PortionDone, portionCheck, compareCheck, Comparison}
 use Rattle.compare.proofs.VerdictLaws.{in-order, outcome-refused}
-use Rattle.image.specs.Bytes.{num}
+use Rattle.image.specs.Bytes.{numberIn}
 use Rattle.image.specs.Images.{widthIn}
 use Rattle.image.specs.Checks.{imageCheck}
 use Rattle.image.specs.Places.{listWith}
@@ -34,22 +34,22 @@ abbrev pub Stopped : Refusal → Compared → Type 0
 Stopped x r = (r .count ≡ 0) × (r .ending ≡ Ending.Refused x)
 
 outcome-stopped : (check : Reply) (x : Refusal) (rs : List Run) (first last old new : List ℕ) (r : Compared) → Stopped x r → check ≡ refusalReply x
-    → Outcome check rs first last old new first last old new r
+    → PortionDone check rs first last old new first last old new r
 outcome-stopped check x rs first last old new r s e =
-    subst⁻¹ (λ (t : Compared). Outcome check rs first last old new first last old new t) same (outcome-refused check x rs first last old new e)
+    subst⁻¹ (λ (t : Compared). PortionDone check rs first last old new first last old new t) same (outcome-refused check x rs first last old new e)
   where
     same : r ≡ record { count = 0; ending = Ending.Refused x }
     same = λ i. record { count = s .0 i; ending = s .1 i }
 
 outcome-same : {check check′ : Reply} {rs rs′ : List Run} (first last old new first′ last′ old′ new′ : List ℕ) (r : Compared) → check ≡ check′ → rs ≡ rs′
-    → Outcome check rs first last old new first′ last′ old′ new′ r → Outcome check′ rs′ first last old new first′ last′ old′ new′ r
+    → PortionDone check rs first last old new first′ last′ old′ new′ r → PortionDone check′ rs′ first last old new first′ last′ old′ new′ r
 outcome-same first last old new first′ last′ old′ new′ r p q o =
-    subst₂ (λ (k : Reply) (l : List Run). Outcome k l first last old new first′ last′ old′ new′ r) p q o
+    subst₂ (λ (k : Reply) (l : List Run). PortionDone k l first last old new first′ last′ old′ new′ r) p q o
 
 -- the runs matter where the checks are passed
 outcome-runs : (check : Reply) (rs rs′ : List Run) (first last old new first′ last′ old′ new′ : List ℕ) (r : Compared)
-    → ((ns : List ℕ) → check ≡ Gives ns → rs ≡ rs′) → Outcome check rs first last old new first′ last′ old′ new′ r
-    → Outcome check rs′ first last old new first′ last′ old′ new′ r
+    → ((ns : List ℕ) → check ≡ Gives ns → rs ≡ rs′) → PortionDone check rs first last old new first′ last′ old′ new′ r
+    → PortionDone check rs′ first last old new first′ last′ old′ new′ r
 outcome-runs (Gives ns) rs rs′ first last old new first′ last′ old′ new′ r f o =
     outcome-same first last old new first′ last′ old′ new′ r refl (f ns refl) o
 outcome-runs (Refuses n l i) rs rs′ first last old new first′ last′ old′ new′ r f o =
@@ -124,7 +124,7 @@ module _ (old new : List ℕ) (start a b c d : ℕ) where
 
 -- comparing by the first lists' ids compares the first lists
 pub first-compared : (old : List ℕ) (i : ℕ) (new : List ℕ) (j start : ℕ) (first last olds news first′ last′ olds′ news′ : List ℕ) (r : Compared)
-    → (12 ≤ length old → i ≡ num 2 10 old) → (12 ≤ length new → j ≡ num 2 10 new)
+    → (12 ≤ length old → i ≡ numberIn 2 10 old) → (12 ≤ length new → j ≡ numberIn 2 10 new)
     → ListsCompared old i new j start first last olds news first′ last′ olds′ news′ r
     → FirstCompared old new start first last olds news first′ last′ olds′ news′ r
 first-compared old i new j start first last olds news first′ last′ olds′ news′ r p q o =

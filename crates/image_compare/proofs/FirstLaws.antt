@@ -6,7 +6,7 @@ use native.Mathlib.Omega.{arith}
 use lib.ListN.{length, drop}
 use Rattle.rules.specs.Replies.{Reply, Gives, Refuses, passed, _then_}
 use Rattle.rules.proofs.ReplyLaws.{need-yes}
-use Rattle.image.specs.Bytes.{num}
+use Rattle.image.specs.Bytes.{numberIn}
 use Rattle.image.specs.Images.{Entry, entryWith, formatIn, countIn, entriesOf, rulesIn, listsIn, listsOf}
 use Rattle.image.specs.Checks.{imageCheck}
 use Rattle.image.specs.Places.{placeOf, listWith}
@@ -18,14 +18,14 @@ use Rattle.image.proofs.SeekLaws.{image-facts, entry-stands}
 use Rattle.image.proofs.PassedLaws.{first-within, first-found, first-body}
 use Rattle.image_compare.specs.Comparing.{rulesOfFirst, firstRules}
 
-first-rules : (b : List ℕ) → 1 ≤ countIn b → firstRules b ≡ rulesIn (formatIn b) (num 2 8 b) (drop (4 + 8 * countIn b) b)
+first-rules : (b : List ℕ) → 1 ≤ countIn b → firstRules b ≡ rulesIn (formatIn b) (numberIn 2 8 b) (drop (4 + 8 * countIn b) b)
 unfolding firstRules rulesOfFirst listsOf entriesOf listsIn
 first-rules b h =
     ap (λ (es : List Entry). rulesOfFirst (listsIn (formatIn b) es (drop (4 + 8 * countIn b) b))) (entries-step (countIn b) (drop 4 b) (omega arith))
     ∙ ap (λ (n : ℕ). rulesIn (formatIn b) n (drop (4 + 8 * countIn b) b)) (num-in 2 4 4 b)
 
 -- asking for it by the id in the first contents entry gives its rules
-pub first-list : (b : List ℕ) → imageCheck b ≡ passed → listWith b (num 2 10 b) ≡ firstRules b
+pub first-list : (b : List ℕ) → imageCheck b ≡ passed → listWith b (numberIn 2 10 b) ≡ firstRules b
 first-list b f = first-body b f ∙ sym (first-rules b (image-facts b [] f .head .some))
 
 -- the same, by the id that a reader is told of entry number 1
@@ -39,7 +39,7 @@ nothing-more (Gives ns) x k f = let e : Gives ns ≡ passed = k ns refl in f e �
 nothing-more (Refuses n l r) x k f = refl
 
 -- there is no 15 where the first list is asked for
-pub first-check : (b : List ℕ) (i : ℕ) → (12 ≤ length b → i ≡ num 2 10 b) → idCheck b i ≡ imageCheck b
+pub first-check : (b : List ℕ) (i : ℕ) → (12 ≤ length b → i ≡ numberIn 2 10 b) → idCheck b i ≡ imageCheck b
 unfolding idCheck
 first-check b i g =
     nothing-more (imageCheck b) _ (bare-image b)

@@ -8,7 +8,7 @@ use Rattle.rules.specs.Rule.{Rule}
 use Rattle.rules.specs.Replies.{Reply, need, _then_}
 use Rattle.compare.specs.declared.Compared.{Compared}
 use Rattle.compare.specs.Runs.{differences}
-use Rattle.compare.specs.Calls.{Outcome, portionCheck}
+use Rattle.compare.specs.Calls.{PortionDone, portionCheck}
 use Rattle.image.specs.Images.{Named, widthIn, listsOf}
 use Rattle.image.specs.Checks.{imageCheck}
 use Rattle.image.specs.Places.{listWith}
@@ -44,11 +44,11 @@ compareFirstCheck old new start a b c d =
 abbrev pub ListsCompared : (old : List ℕ) → (oldId : ℕ) → (new : List ℕ) → (newId : ℕ) → (start : ℕ)
     → (first last olds news first′ last′ olds′ news′ : List ℕ) → Compared → Type 0
 ListsCompared old i new j start first last olds news first′ last′ olds′ news′ r =
-    Outcome (compareListsCheck old i new j start (length first) (length last) (length olds) (length news))
+    PortionDone (compareListsCheck old i new j start (length first) (length last) (length olds) (length news))
     (differences (widthIn old) (listWith old i) (listWith new j) start) first last olds news first′ last′ olds′ news′ r
 
 -- The promise of comparing the first lists.
 abbrev pub FirstCompared : (old new : List ℕ) → (start : ℕ) → (first last olds news first′ last′ olds′ news′ : List ℕ) → Compared → Type 0
 FirstCompared old new start first last olds news first′ last′ olds′ news′ r =
-    Outcome (compareFirstCheck old new start (length first) (length last) (length olds) (length news))
+    PortionDone (compareFirstCheck old new start (length first) (length last) (length olds) (length news))
     (differences (widthIn old) (firstRules old) (firstRules new) start) first last olds news first′ last′ olds′ news′ r

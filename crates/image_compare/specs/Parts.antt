@@ -7,7 +7,7 @@ use Rattle.rules.specs.Rule.{Rule}
 use Rattle.rules.specs.Replies.{Reply, need, _then_}
 use Rattle.compare.specs.declared.Compared.{Compared}
 use Rattle.compare.specs.Runs.{differences}
-use Rattle.compare.specs.Calls.{Outcome, portionCheck}
+use Rattle.compare.specs.Calls.{PortionDone, portionCheck}
 use Rattle.image.specs.Images.{widthIn}
 use Rattle.image.specs.Places.{listWith}
 use Rattle.image.specs.Calls.{idCheck}
@@ -21,5 +21,5 @@ restCheck w new j start a b c d =
 abbrev pub RestCompared : (w : ℕ) → (old : List Rule) → (new : List ℕ) → (newId start : ℕ)
     → (first last olds news first′ last′ olds′ news′ : List ℕ) → Compared → Type 0
 RestCompared w old new j start first last olds news first′ last′ olds′ news′ r =
-    Outcome (restCheck w new j start (length first) (length last) (length olds) (length news))
+    PortionDone (restCheck w new j start (length first) (length last) (length olds) (length news))
     (differences w old (listWith new j) start) first last olds news first′ last′ olds′ news′ r

@@ -6,7 +6,7 @@ ghost use Rattle.words.specs.Halves.{num};
 ghost use Rattle.rules.specs.Replies.{passed};
 ghost use Rattle.rules.specs.Slices.{rulesOf};
 ghost use Rattle.rules.specs.Calls.{checkList};
-ghost use Rattle.image.specs.Bytes.{num as numberAt};
+ghost use Rattle.image.specs.Bytes.{numberIn as numberAt};
 ghost use Rattle.image.specs.Images.{widthIn};
 ghost use Rattle.image_compare.specs.Comparing.{ListsCompared, FirstCompared};
 ghost use Rattle.image_compare.specs.Parts.{RestCompared};

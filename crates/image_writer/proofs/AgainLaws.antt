@@ -18,7 +18,7 @@ use Rattle.rules.specs.Replies.{passed}
 use Rattle.rules.specs.Checks.{rulesCheck}
 use Rattle.rules.proofs.ReplyLaws.{then-next, then-second}
 use Rattle.rules.proofs.CheckLaws.{rules-valid}
-use Rattle.image.specs.Bytes.{le, num, bytes}
+use Rattle.image.specs.Bytes.{le, numberIn, bytes}
 use Rattle.image.specs.Formats.{known, wordBytes, ruleSize, mostPlaces}
 use Rattle.image.specs.Images.{Named, Entry, entryWith, ruleIn, rulesIn, entryIn, entriesIn, listsIn, entriesOf, listsOf, ruleBytes, rulesBytes, bodiesBytes, entryBytes, entriesFor, contentsBytes, bytesOf}
 use Rattle.image.specs.Checks.{entriesCheck, listsCheck, contentsCheck, headCheck, bodiesCheck, imageCheck}
@@ -56,7 +56,7 @@ le-bytes (suc n) x h =
     omega (arith, le-bytes n (x / 256) q, div-add-mod' x 256)
 
 -- where x's bytes stand at place p, the number there is x
-get : (n p x : ℕ) (s t : List ℕ) → drop p s ≡ bytes n x ++ t → x < 256 ^ n → num n p s ≡ x
+get : (n p x : ℕ) (s t : List ℕ) → drop p s ≡ bytes n x ++ t → x < 256 ^ n → numberIn n p s ≡ x
 get n p x s t e h =
     ap (λ (l : List ℕ). le (take n l)) e ∙ ap le (take-at (bytes n x) t n (length-bytes n x)) ∙ le-bytes n x h
 

@@ -19,7 +19,7 @@ use Rattle.words.proofs.SliceLaws.{halves-length}
 use Rattle.image.specs.Formats.{ruleSize}
 use Rattle.image.specs.Images.{Named, named, Entry, listsIn, total, formatIn, countIn, widthIn, entriesIn, entriesOf, listsOf}
 use Rattle.image.specs.Checks.{entryCheck, entriesCheck, listsCheck, contentsCheck, headCheck, bodiesCheck, imageCheck}
-use Rattle.image_writer.specs.Writing.{sumOf, cut, given, namesCheck, imageLength, writeCheck}
+use Rattle.image_writer.specs.Writing.{sumOf, listsFrom, given, namesCheck, imageLength, writeCheck}
 use Rattle.image.proofs.BareLaws.{bare-first, bare-entry, bare-head, bare-contents}
 use Rattle.image.proofs.HeadLaws.{entry-facts, head-facts}
 use Rattle.image.proofs.StepLaws.{contents-total}
@@ -32,8 +32,8 @@ use Rattle.rules.proofs.SliceLaws.{rules-columns}
 -- ---- from a writer's arguments
 
 rising-cut : (l least : ℕ) (ids ns : List ℕ) (rs : List Rule) → All (λ (i : ℕ). i < 65536) ids → length ns ≡ length ids → sumOf ns ≤ length rs
-    → namesCheck l least ids ns ≡ passed → Rising least (cut ids ns rs)
-unfolding namesCheck sizeCheck cut sumOf
+    → namesCheck l least ids ns ≡ passed → Rising least (listsFrom ids ns rs)
+unfolding namesCheck sizeCheck listsFrom sumOf
 rising-cut l least [] ns rs a h s f = tt
 rising-cut l least (i ∷ is) [] rs a h s f = absurd (omega arith)
 rising-cut l least (i ∷ is) (n ∷ ns) rs a h s f =
@@ -46,8 +46,8 @@ rising-cut l least (i ∷ is) (n ∷ ns) rs a h s f =
       rising-cut (l + 1) (i + 1) is ns (drop n rs) (a .1) (omega arith) (omega (arith, length-drop n rs)) (then-second (need (leb n 1024) 3 l 0) _ [] g),
     )
 
-all-cut : (ids ns : List ℕ) (rs : List Rule) → length ns ≡ length ids → sumOf ns ≤ length rs → allRules (cut ids ns rs) ≡ sumOf ns
-unfolding cut sumOf
+all-cut : (ids ns : List ℕ) (rs : List Rule) → length ns ≡ length ids → sumOf ns ≤ length rs → allRules (listsFrom ids ns rs) ≡ sumOf ns
+unfolding listsFrom sumOf
 all-cut [] [] rs h s = refl
 all-cut [] (n ∷ ns) rs h s = absurd (omega arith)
 all-cut (i ∷ is) [] rs h s = absurd (omega arith)
@@ -105,11 +105,11 @@ pub length-joined : (ls : List Named) → length (joined ls) ≡ allRules ls
 length-joined [] = refl
 length-joined (l ∷ ls) = length-append (l .rules) (joined ls) ∙ ap (λ (k : ℕ). length (l .rules) + k) (length-joined ls)
 
-pub cut-joined : (ls : List Named) → cut (namesOf ls) (countsOf ls) (joined ls) ≡ ls
-unfolding cut
+pub cut-joined : (ls : List Named) → listsFrom (namesOf ls) (countsOf ls) (joined ls) ≡ ls
+unfolding listsFrom
 cut-joined [] = refl
 cut-joined (l ∷ ls) =
-    (λ j. named (l .id) (take-at (l .rules) (joined ls) (length (l .rules)) refl j) ∷ cut (namesOf ls) (countsOf ls) (drop-at (l .rules) (joined ls) (length (l .rules)) refl j))
+    (λ j. named (l .id) (take-at (l .rules) (joined ls) (length (l .rules)) refl j) ∷ listsFrom (namesOf ls) (countsOf ls) (drop-at (l .rules) (joined ls) (length (l .rules)) refl j))
     ∙ ap (λ (k : List Named). l ∷ k) (cut-joined ls)
 
 pub length-column : (f : Rule → ℕ) (rs : List Rule) → length (map f rs) ≡ length rs
@@ -141,7 +141,7 @@ carried-writes fmt w ls room v h =
     let lv : length vs ≡ length (joined ls) * 2 = length-words valueOf (joined ls) in
     let ld : length ds ≡ length (joined ls) = length-column decisionOf (joined ls) in
     let size : imageLength fmt (length ids) (length ds) ≡ imageLength fmt (length ls) (allRules ls) = ap₂ (imageLength fmt) li (ld ∙ length-joined ls) in
-    let same : given ids ns cs vs ds ≡ ls = ap (cut ids ns) (rules-columns (joined ls)) ∙ cut-joined ls in
+    let same : given ids ns cs vs ds ≡ ls = ap (listsFrom ids ns) (rules-columns (joined ls)) ∙ cut-joined ls in
     facts-write fmt w ids ns cs vs ds room
     (record {
       shape = record {

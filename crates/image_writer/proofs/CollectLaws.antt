@@ -8,7 +8,7 @@ use lib.ListN.{length, take, drop, drop-of-length-le}
 use lib.Seq.{drop-cons, drop-length}
 use borrow.Author.Tests.{leb-true}
 use Rattle.rules.specs.Rule.{Rule}
-use Rattle.rules.specs.Slices.{Lent}
+use Rattle.rules.specs.Slices.{Lent, decisionOf, caresOf, valuesOf, decisionsOf}
 use Rattle.rules.specs.Replies.{Gives, passed, need, unlessRefused}
 use Rattle.rules.specs.Checks.{lengthsCheck}
 use Rattle.rules.proofs.ReplyLaws.{then-next, then-second, need-then, one-value}
@@ -19,7 +19,7 @@ use Rattle.image.specs.Images.{Named, named, formatIn, widthIn, countIn, listsO
 use Rattle.image.specs.Checks.{imageCheck}
 use Rattle.image.specs.Places.{listWith}
 use Rattle.image.specs.Replies.{outcomeReply, listedReply}
-use Rattle.image.specs.Calls.{formatReply, widthReply, countReply, entryReply, readReply, ReadOut, filled, decisionOf, caresOf, valuesOf, decisionsOf}
+use Rattle.image.specs.Calls.{formatReply, widthReply, countReply, entryReply, readReply, ReadOut, filled}
 use Rattle.image.proofs.BareLaws.{bare-first, bare-image}
 use Rattle.image.proofs.BackLaws.{AreBytes, length-listsOf}
 use Rattle.image.proofs.Theorems.{rulesNamed, list-named}

@@ -9,7 +9,7 @@ use lib.ListN.{length, getD, take, drop, length-append, length-drop}
 use lib.Seq.{take-at, drop-at}
 use Rattle.words.proofs.SliceLaws.{Machine}
 use Rattle.rules.specs.Rule.{Rule}
-use Rattle.rules.specs.Slices.{rulesOf, Lent}
+use Rattle.rules.specs.Slices.{rulesOf, Lent, caresOf, valuesOf, decisionsOf}
 use Rattle.rules.specs.Replies.{Reply, Gives, passed, need, _then_, unlessRefused}
 use Rattle.rules.specs.Checks.{lengthsCheck, roomCheck}
 use Rattle.rules.proofs.ReplyLaws.{then-next, then-second, one-value}
@@ -18,12 +18,12 @@ use Rattle.image.specs.declared.Outcome.{Outcome}
 use Rattle.image.specs.Formats.{formatCheck, rangeCheck}
 use Rattle.image.specs.Images.{Named, formatIn, widthIn, countIn, listsOf, bytesOf}
 use Rattle.image.specs.Checks.{listsCheck, imageCheck}
-use Rattle.image.specs.Calls.{formatReply, widthReply, countReply, entryReply, readReply, ReadOut, caresOf, valuesOf, decisionsOf}
+use Rattle.image.specs.Calls.{formatReply, widthReply, countReply, entryReply, readReply, ReadOut, filled}
 use Rattle.image.proofs.BareLaws.{Bare, bare-need, bare-then, bare-first}
 use Rattle.image.proofs.BackLaws.{AreBytes}
 use Rattle.image.proofs.Theorems.{rulesNamed}
 use Rattle.image.proofs.Unique.{one-outcome}
-use Rattle.image_writer.specs.Writing.{sumOf, cut, given, namesCheck, imageLength, givenCheck, shapeCheck, writeCheck, writeReply, imaged, Written}
+use Rattle.image_writer.specs.Writing.{sumOf, listsFrom, given, namesCheck, imageLength, givenCheck, shapeCheck, writeCheck, writeReply, Written}
 use Rattle.image_writer.proofs.WriteLaws.{WriteFacts, write-facts, length-cut, rules-given, length-image}
 use Rattle.image_writer.proofs.AgainLaws.{Rising}
 use Rattle.image_writer.proofs.CarryLaws.{facts-carried, namesOf, countsOf, joined}
@@ -55,8 +55,8 @@ module _ (f w : ℕ) (ids ns cs vs ds out out′ : List ℕ) (n : ℕ) (a : AreI
   unfolding writeReply
   length-is = length-image f w ids ns cs vs ds (facts .shape) ∙ one-value (then-second (writeCheck f w ids ns cs vs ds (length out)) _ (n ∷ []) (sym (W .answer)))
 
-  left : out′ ≡ imaged (bytesOf f w (given ids ns cs vs ds)) out
-  left = W .bytes ∙ ap (λ (u : Reply). unlessRefused u (imaged (bytesOf f w (given ids ns cs vs ds)) out) out) (sym (W .answer))
+  left : out′ ≡ filled (bytesOf f w (given ids ns cs vs ds)) out
+  left = W .bytes ∙ ap (λ (u : Reply). unlessRefused u (filled (bytesOf f w (given ids ns cs vs ds)) out) out) (sym (W .answer))
 
   -- The first n bytes are the image of the format, the width and the lists given.
   pub written-bytes : take n out′ ≡ bytesOf f w (given ids ns cs vs ds)
@@ -205,7 +205,7 @@ module _ (f w : ℕ) (ids ns c v d cs vs ds out : List ℕ) (l : Lent c v d) (m 
       then need (leb 1 (length ids)) 12 0 0
       then need (leb (length ids) 16) 12 0 0)
       then namesCheck 1 0 ids ns
-      then listsCheck w 1 (cut ids ns (e j))
+      then listsCheck w 1 (listsFrom ids ns (e j))
       then need (leb (imageLength f (length ids) (q j)) 65536) 10 0 0
       then roomCheck (imageLength f (length ids) (q j)) (length out))
       then Gives (imageLength f (length ids) (q j) ∷ [])
@@ -214,7 +214,7 @@ module _ (f w : ℕ) (ids ns c v d cs vs ds out : List ℕ) (l : Lent c v d) (m 
   same-written r out′ W =
       record {
         answer = W .answer ∙ same-reply;
-        bytes = W .bytes ∙ (λ j. unlessRefused (same-reply j) (imaged (bytesOf f w (cut ids ns (e j))) out) out);
+        bytes = W .bytes ∙ (λ j. unlessRefused (same-reply j) (filled (bytesOf f w (listsFrom ids ns (e j))) out) out);
       }
 
 -- An accepted image.
@@ -232,7 +232,7 @@ module _ (b : List ℕ) (h : AreBytes b) (f : imageCheck b ≡ passed) where
       → Again b out r out′
   rewritten-bytes out out′ r room W =
       let rs : List Rule = joined (listsOf b) in
-      let e = write-once (formatIn b) (widthIn b) (namesOf (listsOf b)) (countsOf (listsOf b)) (caresOf rs) (valuesOf rs) (decisionsOf rs) out r (Outcome.Number (length b)) out′ (imaged b out)
+      let e = write-once (formatIn b) (widthIn b) (namesOf (listsOf b)) (countsOf (listsOf b)) (caresOf rs) (valuesOf rs) (decisionsOf rs) out r (Outcome.Number (length b)) out′ (filled b out)
       W (rewritten b out h f room) in
       (e .0, ap (take (length b)) (e .1) ∙ take-at b (drop (length b) out) (length b) refl, ap (drop (length b)) (e .1) ∙ drop-at b (drop (length b) out) (length b) refl)
 

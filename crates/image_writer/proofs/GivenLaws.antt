@@ -26,7 +26,7 @@ use Rattle.words.specs.Slices.{wordsOf}
 use Rattle.image.specs.Bytes.{part}
 use Rattle.image.specs.Formats.{known, ruleSize, mostPlaces, formatCheck, rangeCheck}
 use Rattle.image.specs.Checks.{listsCheck}
-use Rattle.image_writer.specs.Writing.{sumOf, cut, given, namesCheck, imageLength, givenCheck, shapeCheck, writeCheck}
+use Rattle.image_writer.specs.Writing.{sumOf, listsFrom, given, namesCheck, imageLength, givenCheck, shapeCheck, writeCheck}
 use Rattle.image.proofs.FormatLaws.{places-most}
 use Rattle.image.proofs.NumberLaws.{length-part}
 use Rattle.image.proofs.BareLaws.{Bare, bare-need, bare-then, bare-first}
@@ -274,13 +274,13 @@ list-part w l from n first k cs vs ds a b lent h small p q =
     ∙ ap (rulesCheck w l 1) (rules-take n k (drop first cs) (drop first vs) (drop from ds) q ∙ ap (take n) (rules-drop from first cs vs ds p))
 
 module _ (w i from n : ℕ) (ids ns : List ℕ) (rs : List Rule) (h : i < length ids) (l : length ns ≡ length ids) (e : n ≡ getD ns i 0) where
-  cut-turn : listsCheck w (i + 1) (cut (drop i ids) (drop i ns) (drop from rs))
-      ≡ (rulesCheck w (i + 1) 1 (take n (drop from rs)) then listsCheck w (i + 1 + 1) (cut (drop (i + 1) ids) (drop (i + 1) ns) (drop (from + n) rs)))
-  unfolding listsCheck cut
+  cut-turn : listsCheck w (i + 1) (listsFrom (drop i ids) (drop i ns) (drop from rs))
+      ≡ (rulesCheck w (i + 1) 1 (take n (drop from rs)) then listsCheck w (i + 1 + 1) (listsFrom (drop (i + 1) ids) (drop (i + 1) ns) (drop (from + n) rs)))
+  unfolding listsCheck listsFrom
   cut-turn =
-      (λ j. listsCheck w (i + 1) (cut (drop-cons ids i 0 h j) (drop-cons ns i 0 (omega arith) j) (drop from rs)))
-      ∙ (λ j. rulesCheck w (i + 1) 1 (take (sym e j) (drop from rs)) then listsCheck w (i + 1 + 1) (cut (drop (sym (add-one i) j) ids) (drop (sym (add-one i) j) ns) (drop (sym e j) (drop from rs))))
-      ∙ ap (λ (k : List Rule). rulesCheck w (i + 1) 1 (take n (drop from rs)) then listsCheck w (i + 1 + 1) (cut (drop (i + 1) ids) (drop (i + 1) ns) k)) (drop-drop n from rs)
+      (λ j. listsCheck w (i + 1) (listsFrom (drop-cons ids i 0 h j) (drop-cons ns i 0 (omega arith) j) (drop from rs)))
+      ∙ (λ j. rulesCheck w (i + 1) 1 (take (sym e j) (drop from rs)) then listsCheck w (i + 1 + 1) (listsFrom (drop (sym (add-one i) j) ids) (drop (sym (add-one i) j) ns) (drop (sym e j) (drop from rs))))
+      ∙ ap (λ (k : List Rule). rulesCheck w (i + 1) 1 (take n (drop from rs)) then listsCheck w (i + 1 + 1) (listsFrom (drop (i + 1) ids) (drop (i + 1) ns) k)) (drop-drop n from rs)
 
 module _ (w i from n end first last : ℕ) (ids ns cs vs ds : List ℕ) (h : i < length ids) (l : length ns ≡ length ids) (e : n ≡ getD ns i 0) (low : 1 ≤ w) (high : w ≤ widest) (lent : Lent cs vs ds)
     (fits : from + n ≤ length ds) (small : n ≤ 1024) (is : end - from ≡ n) (at : first ≡ from * 2) (long : last - first ≡ n * 2) (v : Verdict)
@@ -290,18 +290,18 @@ module _ (w i from n end first last : ℕ) (ids ns cs vs ds : List ℕ) (h : i <
       p ∙ ap (λ (k : ℕ). checkList w (i + 1) (part (last - first) first cs) (part (last - first) first vs) (part k from ds)) is
       ∙ list-part w (i + 1) from n first (last - first) cs vs ds low high lent fits small at long
 
-  pub cut-stop : {x : Refusal} → v ≡ Verdict.Refused x → listsCheck w (i + 1) (cut (drop i ids) (drop i ns) (drop from (rulesOf cs vs ds))) ≡ verdictReply v
+  pub cut-stop : {x : Refusal} → v ≡ Verdict.Refused x → listsCheck w (i + 1) (listsFrom (drop i ids) (drop i ns) (drop from (rulesOf cs vs ds))) ≡ verdictReply v
   cut-stop q = cut-turn w i from n ids ns (rulesOf cs vs ds) h l e ∙ verdict-stop v _ _ told q
 
   pub cut-pass : end ≡ from + n → v ≡ Verdict.Fine
-      → listsCheck w (i + 1) (cut (drop i ids) (drop i ns) (drop from (rulesOf cs vs ds))) ≡ listsCheck w (i + 1 + 1) (cut (drop (i + 1) ids) (drop (i + 1) ns) (drop end (rulesOf cs vs ds)))
+      → listsCheck w (i + 1) (listsFrom (drop i ids) (drop i ns) (drop from (rulesOf cs vs ds))) ≡ listsCheck w (i + 1 + 1) (listsFrom (drop (i + 1) ids) (drop (i + 1) ns) (drop end (rulesOf cs vs ds)))
   cut-pass z q =
       cut-turn w i from n ids ns (rulesOf cs vs ds) h l e ∙ fine-next v _ _ told q
-      ∙ ap (λ (k : ℕ). listsCheck w (i + 1 + 1) (cut (drop (i + 1) ids) (drop (i + 1) ns) (drop k (rulesOf cs vs ds)))) (sym z)
+      ∙ ap (λ (k : ℕ). listsCheck w (i + 1 + 1) (listsFrom (drop (i + 1) ids) (drop (i + 1) ns) (drop k (rulesOf cs vs ds)))) (sym z)
 
-pub cut-end : (w i : ℕ) (ids ns : List ℕ) (rs : List Rule) → length ids ≤ i → listsCheck w (i + 1) (cut (drop i ids) (drop i ns) rs) ≡ passed
-unfolding listsCheck cut
-cut-end w i ids ns rs h = ap (λ (k : List ℕ). listsCheck w (i + 1) (cut k (drop i ns) rs)) (drop-of-length-le ids h)
+pub cut-end : (w i : ℕ) (ids ns : List ℕ) (rs : List Rule) → length ids ≤ i → listsCheck w (i + 1) (listsFrom (drop i ids) (drop i ns) rs) ≡ passed
+unfolding listsCheck listsFrom
+cut-end w i ids ns rs h = ap (λ (k : List ℕ). listsCheck w (i + 1) (listsFrom k (drop i ns) rs)) (drop-of-length-le ids h)
 
 -- ---- all checks
 

@@ -11,7 +11,7 @@ use borrow.Author.Tests.{eq-eqb, ne-eqb, le-leb}
 use Rattle.words.specs.Slices.{halvesOf}
 use Rattle.words.proofs.SliceLaws.{halves-append}
 use Rattle.rules.specs.Rule.{Rule}
-use Rattle.rules.specs.Slices.{rulesOf, Lent}
+use Rattle.rules.specs.Slices.{rulesOf, Lent, careOf, valueOf, decisionOf, caresOf, valuesOf, decisionsOf}
 use Rattle.rules.specs.Replies.{Reply, Gives, passed, unlessRefused}
 use Rattle.rules.specs.Checks.{lengthsCheck, roomCheck}
 use Rattle.rules.proofs.ReplyLaws.{then-next, then-second, need-yes, one-value}
@@ -22,11 +22,11 @@ use Rattle.image.specs.Formats.{ruleSize}
 use Rattle.image.specs.Images.{Entry, entryWith, Named, named, listsIn, formatIn, countIn, entriesOf, listsOf}
 use Rattle.image.specs.Checks.{imageCheck}
 use Rattle.image.specs.Places.{placeIn, placeAt, pickPlace, placeOf, listWith}
-use Rattle.image.specs.Calls.{entryReply, idCheck, readReply, ReadOut, filled, careOf, valueOf, decisionOf, caresOf, valuesOf, decisionsOf}
+use Rattle.image.specs.Calls.{entryReply, idCheck, readReply, ReadOut, filled}
 use Rattle.image.proofs.SeekLaws.{length-entries, length-rulesIn}
 use Rattle.image.proofs.PassedLaws.{length-with}
 use Rattle.image.proofs.Theorems.{rulesNamed, list-named}
-use Rattle.image_writer.specs.Writing.{sumOf, cut}
+use Rattle.image_writer.specs.Writing.{sumOf, listsFrom}
 use Rattle.image_writer.proofs.AgainLaws.{Rising}
 use Rattle.image_writer.proofs.CarryLaws.{namesOf, countsOf, joined, length-column, length-words}
 
@@ -153,8 +153,8 @@ module _ (b : List ℕ) (id : ℕ) (c v d : List ℕ) (n : ℕ) (c′ v′ d′ 
 
 -- the list at place k has the id at place k, and as many rules as the count there says, after those of the counts before it
 pub cut-at : (ids ns : List ℕ) (rs : List Rule) (k : ℕ) → length ns ≡ length ids → k < length ids
-    → listAt (cut ids ns rs) k ≡ named (getD ids k 0) (take (getD ns k 0) (drop (sumOf (take k ns)) rs))
-unfolding cut sumOf
+    → listAt (listsFrom ids ns rs) k ≡ named (getD ids k 0) (take (getD ns k 0) (drop (sumOf (take k ns)) rs))
+unfolding listsFrom sumOf
 cut-at [] ns rs k e h = absurd (omega arith)
 cut-at (i ∷ is) [] rs k e h = absurd (omega arith)
 cut-at (i ∷ is) (n ∷ ns) rs zero e h = refl
@@ -164,8 +164,8 @@ cut-at (i ∷ is) (n ∷ ns) rs (suc k) e h =
 
 -- where the counts do not go past the rules, it has no fewer
 pub cut-size : (ids ns : List ℕ) (rs : List Rule) (k : ℕ) → length ns ≡ length ids → k < length ids → sumOf ns ≤ length rs
-    → length (listAt (cut ids ns rs) k .rules) ≡ getD ns k 0
-unfolding cut sumOf
+    → length (listAt (listsFrom ids ns rs) k .rules) ≡ getD ns k 0
+unfolding listsFrom sumOf
 cut-size [] ns rs k e h s = absurd (omega arith)
 cut-size (i ∷ is) [] rs k e h s = absurd (omega arith)
 cut-size (i ∷ is) (n ∷ ns) rs zero e h s = length-take-le n rs (omega arith)
@@ -173,8 +173,8 @@ cut-size (i ∷ is) (n ∷ ns) rs (suc k) e h s = cut-size is ns (drop n rs) k (
 
 -- ids, counts and rules that were cut into lists are those of the lists
 pub cut-back : (ids ns : List ℕ) (rs : List Rule) → length ns ≡ length ids → sumOf ns ≡ length rs
-    → (namesOf (cut ids ns rs) ≡ ids) × (countsOf (cut ids ns rs) ≡ ns) × (joined (cut ids ns rs) ≡ rs)
-unfolding cut sumOf
+    → (namesOf (listsFrom ids ns rs) ≡ ids) × (countsOf (listsFrom ids ns rs) ≡ ns) × (joined (listsFrom ids ns rs) ≡ rs)
+unfolding listsFrom sumOf
 cut-back [] [] [] e s = (refl, refl, refl)
 cut-back [] [] (r ∷ rs) e s = absurd (omega arith)
 cut-back [] (n ∷ ns) rs e s = absurd (omega arith)

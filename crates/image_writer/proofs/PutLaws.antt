@@ -17,7 +17,8 @@ use Rattle.rules.specs.Slices.{ruleAt, blank}
 use Rattle.image.specs.Bytes.{bytes}
 use Rattle.image.specs.Formats.{wordBytes, ruleSize}
 use Rattle.image.specs.Images.{Entry, entryWith, entryBytes, ruleBytes, rulesBytes, contentsBytes}
-use Rattle.image_writer.specs.Writing.{imaged}
+use Rattle.image.specs.Calls.{filled}
+use Rattle.image_writer.specs.Writing.{}
 use Rattle.image_writer.specs.Putting.{over, entriesGiven}
 use Rattle.image.proofs.FormatLaws.{word-one, word-two, rule-words, times-down}
 
@@ -33,7 +34,7 @@ pub over-none : (s : List ℕ) (p : ℕ) → over s p [] ≡ s
 over-none s p = ap (λ (k : ℕ). take p s ++ drop k s) (add-zero p) ∙ take-append-drop p s
 
 -- what goes over the first bytes
-pub over-imaged : (s l : List ℕ) → over s 0 l ≡ imaged l s
+pub over-imaged : (s l : List ℕ) → over s 0 l ≡ filled l s
 over-imaged s l = ap (λ (k : ℕ). l ++ drop k s) (zero-add (length l))
 
 -- to write l, and then m behind it, is to write both

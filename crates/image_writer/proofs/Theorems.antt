@@ -17,7 +17,8 @@ use Rattle.image.specs.Checks.{imageCheck}
 use Rattle.image.specs.Places.{listWith}
 use Rattle.image.proofs.BackLaws.{AreBytes, read-write}
 use Rattle.image.proofs.Theorems.{rulesNamed, list-named}
-use Rattle.image_writer.specs.Writing.{cut, given, imageLength, writeCheck, writeReply, imaged, Written}
+use Rattle.image.specs.Calls.{filled}
+use Rattle.image_writer.specs.Writing.{listsFrom, given, imageLength, writeCheck, writeReply, Written}
 use Rattle.image_writer.proofs.WriteLaws.{write-facts, facts-write}
 use Rattle.image_writer.proofs.AgainLaws.{Carried, carried-passes, carried-back}
 use Rattle.image_writer.proofs.CarryLaws.{facts-carried, image-carried, ids-fit, namesOf, countsOf, joined, cut-joined, length-names, length-joined, length-column, carried-writes}
@@ -89,7 +90,7 @@ read-written b h f = read-write b h f
 -- The call that does so gives the image's length, and the lent bytes start with the image.
 pub rewritten : (b out : List ℕ) → AreBytes b → imageCheck b ≡ passed → length b ≤ length out
     → Written (formatIn b) (widthIn b) (namesOf (listsOf b)) (countsOf (listsOf b)) (caresOf (joined (listsOf b))) (valuesOf (joined (listsOf b))) (decisionsOf (joined (listsOf b))) out
-    (Outcome.Number (length b)) (imaged b out)
+    (Outcome.Number (length b)) (filled b out)
 unfolding writeReply
 rewritten b out h f room =
     let ls : List Named = listsOf b in
@@ -103,9 +104,9 @@ rewritten b out h f room =
     ap₂ (imageLength (formatIn b)) (length-names ls) (length-column decisionOf (joined ls) ∙ length-joined ls) ∙ k .1 in
     let c : writeCheck (formatIn b) (widthIn b) ids ns cs vs ds (length out) ≡ passed = carried-writes (formatIn b) (widthIn b) ls (length out) (k .0) (omega (arith, k .1)) in
     let e : writeReply (formatIn b) (widthIn b) ids ns cs vs ds out ≡ Gives (length b ∷ []) = then-next _ _ c ∙ ap (λ (n : ℕ). Gives (n ∷ [])) size in
-    let same : given ids ns cs vs ds ≡ ls = ap (cut ids ns) (rules-columns (joined ls)) ∙ cut-joined ls in
+    let same : given ids ns cs vs ds ≡ ls = ap (listsFrom ids ns) (rules-columns (joined ls)) ∙ cut-joined ls in
     record {
       answer = sym e;
-      bytes = sym (ap (λ (u : Reply). unlessRefused u (imaged (bytesOf (formatIn b) (widthIn b) (given ids ns cs vs ds)) out) out) e
-          ∙ ap (λ (l : List Named). imaged (bytesOf (formatIn b) (widthIn b) l) out) same ∙ ap (λ (x : List ℕ). imaged x out) (read-write b h f));
+      bytes = sym (ap (λ (u : Reply). unlessRefused u (filled (bytesOf (formatIn b) (widthIn b) (given ids ns cs vs ds)) out) out) e
+          ∙ ap (λ (l : List Named). filled (bytesOf (formatIn b) (widthIn b) l) out) same ∙ ap (λ (x : List ℕ). filled x out) (read-write b h f));
     }

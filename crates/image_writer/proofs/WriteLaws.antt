@@ -20,7 +20,8 @@ use Rattle.image.specs.declared.Outcome.{Outcome}
 use Rattle.image.specs.Formats.{ruleSize}
 use Rattle.image.specs.Images.{Entry, entryWith, entriesFor, ruleBytes, rulesBytes, bodiesBytes, contentsBytes, bytesOf}
 use Rattle.image.specs.Checks.{listsCheck}
-use Rattle.image_writer.specs.Writing.{sumOf, cut, given, namesCheck, imageLength, shapeCheck, writeCheck, writeReply, imaged, Written}
+use Rattle.image.specs.Calls.{filled}
+use Rattle.image_writer.specs.Writing.{sumOf, listsFrom, given, namesCheck, imageLength, shapeCheck, writeCheck, writeReply, Written}
 use Rattle.image_writer.specs.Putting.{over, entriesGiven}
 use Rattle.image.proofs.BareLaws.{bare-first, bare-lists}
 use Rattle.image_writer.proofs.PutLaws.{over-over, over-imaged, length-contents, length-rulesBytes, length-given}
@@ -76,19 +77,19 @@ module _ (fmt w : ℕ) (ids ns cs vs ds : List ℕ) (room : ℕ) (f : WriteFacts
 
 -- ---- the lists that are given, as bytes
 
-pub length-cut : (ids ns : List ℕ) (rs : List Rule) → length ns ≡ length ids → length (cut ids ns rs) ≡ length ids
-unfolding cut
+pub length-cut : (ids ns : List ℕ) (rs : List Rule) → length ns ≡ length ids → length (listsFrom ids ns rs) ≡ length ids
+unfolding listsFrom
 length-cut [] ns rs h = refl
 length-cut (i ∷ is) [] rs h = absurd (omega arith)
 length-cut (i ∷ is) (n ∷ ns) rs h = ap suc (length-cut is ns (drop n rs) (omega arith))
 
-pub entries-cut : (fmt next : ℕ) (ids ns : List ℕ) (rs : List Rule) → length ns ≡ length ids → sumOf ns ≤ length rs → entriesFor fmt next (cut ids ns rs) ≡ entriesGiven fmt next ids ns
-unfolding entriesFor cut entriesGiven sumOf
+pub entries-cut : (fmt next : ℕ) (ids ns : List ℕ) (rs : List Rule) → length ns ≡ length ids → sumOf ns ≤ length rs → entriesFor fmt next (listsFrom ids ns rs) ≡ entriesGiven fmt next ids ns
+unfolding entriesFor listsFrom entriesGiven sumOf
 entries-cut fmt next [] ns rs h s = refl
 entries-cut fmt next (i ∷ is) [] rs h s = absurd (omega arith)
 entries-cut fmt next (i ∷ is) (n ∷ ns) rs h s =
     let t : length (take n rs) ≡ n = length-take-le n rs (omega arith) in
-    (λ j. entryWith next (t j) i ∷ entriesFor fmt (next + ruleSize fmt * t j) (cut is ns (drop n rs)))
+    (λ j. entryWith next (t j) i ∷ entriesFor fmt (next + ruleSize fmt * t j) (listsFrom is ns (drop n rs)))
     ∙ ap (λ (es : List Entry). entryWith next n i ∷ es) (entries-cut fmt (next + ruleSize fmt * n) is ns (drop n rs) (omega arith) (omega (arith, length-drop n rs)))
 
 rules-join : (fmt : ℕ) (xs ys : List Rule) → rulesBytes fmt (xs ++ ys) ≡ rulesBytes fmt xs ++ rulesBytes fmt ys
@@ -96,8 +97,8 @@ unfolding rulesBytes
 rules-join fmt [] ys = refl
 rules-join fmt (x ∷ xs) ys = ap (λ (l : List ℕ). ruleBytes fmt x ++ l) (rules-join fmt xs ys) ∙ sym (append-assoc (ruleBytes fmt x) (rulesBytes fmt xs) (rulesBytes fmt ys))
 
-pub bodies-cut : (fmt : ℕ) (ids ns : List ℕ) (rs : List Rule) → length ns ≡ length ids → sumOf ns ≡ length rs → bodiesBytes fmt (cut ids ns rs) ≡ rulesBytes fmt rs
-unfolding bodiesBytes cut sumOf rulesBytes
+pub bodies-cut : (fmt : ℕ) (ids ns : List ℕ) (rs : List Rule) → length ns ≡ length ids → sumOf ns ≡ length rs → bodiesBytes fmt (listsFrom ids ns rs) ≡ rulesBytes fmt rs
+unfolding bodiesBytes listsFrom sumOf rulesBytes
 bodies-cut fmt [] [] [] h s = refl
 bodies-cut fmt [] [] (r ∷ rs) h s = absurd (omega arith)
 bodies-cut fmt [] (n ∷ ns) rs h s = absurd (omega arith)
@@ -129,7 +130,7 @@ module _ (fmt w : ℕ) (ids ns cs vs ds : List ℕ) (shape : Shape fmt w ids ns 
   -- the head, then the contents, then the rules
   pub parts-given : (out s₁ s₂ s₃ : List ℕ) → imageLength fmt (length ids) (length ds) ≤ length out
       → s₁ ≡ over out 0 (fmt ∷ w ∷ length ids ∷ 0 ∷ []) → s₂ ≡ over s₁ 4 (contentsBytes (entriesGiven fmt (4 + 8 * length ids) ids ns)) → s₃ ≡ over s₂ (4 + 8 * length ids) (rulesBytes fmt (rulesOf cs vs ds))
-      → s₃ ≡ imaged (bytesOf fmt w (given ids ns cs vs ds)) out
+      → s₃ ≡ filled (bytesOf fmt w (given ids ns cs vs ds)) out
   parts-given out s₁ s₂ s₃ h e₁ e₂ e₃ =
       let H : List ℕ = fmt ∷ w ∷ length ids ∷ 0 ∷ [] in
       let X : List ℕ = contentsBytes (entriesGiven fmt (4 + 8 * length ids) ids ns) in
@@ -140,7 +141,7 @@ module _ (fmt w : ℕ) (ids ns cs vs ds : List ℕ) (shape : Shape fmt w ids ns 
       e₃ ∙ ap (λ (t : List ℕ). over t (4 + 8 * length ids) Y) (e₂ ∙ ap (λ (t : List ℕ). over t 4 X) e₁ ∙ over-over out 0 4 H X refl (omega arith))
       ∙ over-over out 0 (4 + 8 * length ids) (H ++ X) Y (omega arith) (omega arith)
       ∙ over-imaged out ((H ++ X) ++ Y)
-      ∙ ap (λ (t : List ℕ). imaged t out) (sym bytes-given)
+      ∙ ap (λ (t : List ℕ). filled t out) (sym bytes-given)
 
 -- ---- the call
 
@@ -149,7 +150,7 @@ module _ (fmt w : ℕ) (ids ns cs vs ds out : List ℕ) (v : Verdict) (p : verdi
   unfolding writeReply
   written-refused {x} q =
       let e : writeReply fmt w ids ns cs vs ds out ≡ refusalReply x = refused-stop v _ _ p q in
-      record { answer = sym e; bytes = sym (ap (λ (u : Reply). unlessRefused u (imaged (bytesOf fmt w (given ids ns cs vs ds)) out) out) e) }
+      record { answer = sym e; bytes = sym (ap (λ (u : Reply). unlessRefused u (filled (bytesOf fmt w (given ids ns cs vs ds)) out) out) e) }
 
   pub written : v ≡ Verdict.Fine → (size : ℕ) → size ≡ ruleSize fmt * length ds → (s₁ s₂ s₃ : List ℕ)
       → s₁ ≡ over out 0 (fmt ∷ w ∷ length ids ∷ 0 ∷ []) → s₂ ≡ over s₁ 4 (contentsBytes (entriesGiven fmt (4 + 8 * length ids) ids ns)) → s₃ ≡ over s₂ (4 + 8 * length ids) (rulesBytes fmt (rulesOf cs vs ds))
@@ -161,5 +162,5 @@ module _ (fmt w : ℕ) (ids ns cs vs ds out : List ℕ) (v : Verdict) (p : verdi
       record {
         answer = ap (λ (k : ℕ). Gives ((4 + 8 * length ids + k) ∷ [])) z ∙ sym e;
         bytes = parts-given fmt w ids ns cs vs ds (f .shape) out s₁ s₂ s₃ (f .fits) e₁ e₂ e₃
-            ∙ sym (ap (λ (u : Reply). unlessRefused u (imaged (bytesOf fmt w (given ids ns cs vs ds)) out) out) e);
+            ∙ sym (ap (λ (u : Reply). unlessRefused u (filled (bytesOf fmt w (given ids ns cs vs ds)) out) out) e);
       }

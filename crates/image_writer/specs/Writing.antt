@@ -12,6 +12,7 @@ use Rattle.image.specs.declared.Outcome.{Outcome}
 use Rattle.image.specs.Formats.{ruleSize, formatCheck, rangeCheck}
 use Rattle.image.specs.Images.{Named, named, bytesOf}
 use Rattle.image.specs.Checks.{listsCheck}
+use Rattle.image.specs.Calls.{filled}
 use Rattle.image.specs.Replies.{outcomeReply}
 
 unfoldable pub sumOf : List ℕ → ℕ
@@ -19,14 +20,14 @@ sumOf [] = 0
 sumOf (n ∷ ns) = n + sumOf ns
 
 -- Rules one after the other, cut into lists: as many for each id as its count says.
-unfoldable pub cut : (ids counts : List ℕ) → List Rule → List Named
-cut [] ns rs = []
-cut (i ∷ is) [] rs = []
-cut (i ∷ is) (n ∷ ns) rs = named i (take n rs) ∷ cut is ns (drop n rs)
+unfoldable pub listsFrom : (ids counts : List ℕ) → List Rule → List Named
+listsFrom [] ns rs = []
+listsFrom (i ∷ is) [] rs = []
+listsFrom (i ∷ is) (n ∷ ns) rs = named i (take n rs) ∷ listsFrom is ns (drop n rs)
 
 -- The lists that a writer is given.
 abbrev pub given : (ids counts cares values decisions : List ℕ) → List Named
-given ids ns cs vs ds = cut ids ns (rulesOf cs vs ds)
+given ids ns cs vs ds = listsFrom ids ns (rulesOf cs vs ds)
 
 -- The lists from number l on: the id is `least` or more, then at most 1,024 rules; the next id is greater than this one.
 unfoldable pub namesCheck : (l least : ℕ) → (ids counts : List ℕ) → Reply
@@ -71,11 +72,7 @@ unfoldable pub writeReply : (f w : ℕ) → (ids counts cares values decisions o
 writeReply f w ids ns cs vs ds out =
     writeCheck f w ids ns cs vs ds (length out) then Gives (imageLength f (length ids) (length ds) ∷ [])
 
--- Bytes that held `out`, after an image went into them from the first on: later bytes are as they were.
-abbrev pub imaged : (image out : List ℕ) → List ℕ
-imaged bs out = bs ++ drop (length bs) out
-
--- Writing: the answer, and the lent bytes afterwards.
+-- Writing: the answer, and the lent bytes afterwards: the image from the first byte on, and later bytes as they were.
 pub record Written (f w : ℕ) (ids ns cs vs ds out : List ℕ) (r : Outcome) (out′ : List ℕ) : Type 0 where
   pub answer : outcomeReply r ≡ writeReply f w ids ns cs vs ds out
-  pub bytes : out′ ≡ unlessRefused (writeReply f w ids ns cs vs ds out) (imaged (bytesOf f w (given ids ns cs vs ds)) out) out
+  pub bytes : out′ ≡ unlessRefused (writeReply f w ids ns cs vs ds out) (filled (bytesOf f w (given ids ns cs vs ds)) out) out

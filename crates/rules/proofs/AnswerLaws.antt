@@ -37,19 +37,6 @@ answered-once a b = go (eqb a noMatch) (eqb b noMatch) refl refl
 
 -- ---- one list
 
-rules-given : (w l i : ℕ) (rs : List Rule) (ns : List ℕ) → rulesCheck w l i rs ≡ Gives ns → passed ≡ Gives ns
-unfolding rulesCheck
-rules-given w l i [] ns e = e
-rules-given w l i (r ∷ rs) ns e = rules-given w l (i + 1) rs ns (then-second (ruleCheck w l i r) _ ns e)
-
--- The check of a list that is not refused has no values.
-pub list-given : (w l : ℕ) (cs vs ds : List ℕ) {ns : List ℕ} → checkList w l cs vs ds ≡ Gives ns → checkList w l cs vs ds ≡ passed
-unfolding checkList listCheck
-list-given w l cs vs ds {ns} e =
-    e
-    ∙ sym (rules-given w l 1 (rulesOf cs vs ds) ns
-    (then-second (sizeCheck l (length ds)) _ ns (then-second (lengthsCheck cs vs ds) _ ns (then-second (widthCheck w) _ ns e))))
-
 -- A list that passes under one number passes under every other.
 pub list-renamed : (w l m : ℕ) (cs vs ds : List ℕ) → checkList w l cs vs ds ≡ passed → checkList w m cs vs ds ≡ passed
 list-renamed w l m cs vs ds e = sound-list w m cs vs ds (list-sound w l cs vs ds e)

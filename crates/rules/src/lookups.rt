@@ -16,24 +16,24 @@ use crate::slices::rule_at;
 use words::Word;
 
 // Where the first matching rule stands, counted from 0.
-pub(crate) enum Found {
+pub(crate) enum FirstMatch {
     At(usize),
     Nothing,
 }
 
 // The first rule that matches.
-pub(crate) fn first_match(care: &[u64], value: &[u64], decision: &[u16], header: Word) -> Found
+pub(crate) fn first_match(care: &[u64], value: &[u64], decision: &[u16], header: Word) -> FirstMatch
     requires { ⌜ Lent (now care) (now value) (now decision) ⌝ }
     ensures { λ r. ⌜ FirstAt (rulesOf (now (care .entry)) (now (value .entry)) (now (decision .entry))) (num header) r ⌝ }
 {
     let mut i: usize = 0;
     while i < decision.len() {
         if rule_matches(rule_at(care, value, decision, i), header) {
-            return Found::At(i);
+            return FirstMatch::At(i);
         }
         i += 1;
     }
-    Found::Nothing
+    FirstMatch::Nothing
 }
 
 // Looks a header up that is given as its number, for the calls on headers of either order: the checks of the list, then 6;
@@ -53,7 +53,7 @@ pub fn lookup_number(
         return Looked::Refused(x);
     }
     if words::below(header, width) {
-        let Found::At(i) = first_match(care, value, decision, header) else {
+        let FirstMatch::At(i) = first_match(care, value, decision, header) else {
             return Looked::Miss;
         };
         let rule = rule_at(care, value, decision, i);

@@ -10,7 +10,7 @@ use Rattle.words.proofs.WordLaws.{holds}
 use Rattle.rules.specs.Replies.{Reply, Gives, _then_, unlessRefused}
 use Rattle.compare.specs.declared.Compared.{Compared}
 use Rattle.compare.specs.Runs.{Run, portion, ending}
-use Rattle.compare.specs.Calls.{Outcome}
+use Rattle.compare.specs.Calls.{PortionDone}
 use Rattle.image_compare.specs.Comparing.{FirstCompared, ListsCompared, compareFirstCheck, compareListsCheck}
 use Rattle.run_lines.specs.Shown.{room, numbers, Shown, FirstShown, ListsShown}
 
@@ -31,7 +31,7 @@ header-places : length header-zeros ≡ numbers
 header-places = length-replicate {A = ℕ} numbers 0
 
 module _ (first′ last′ olds′ news′ : List ℕ) (r s : Compared) (e : s ≡ r) where
-  shown : (check check′ : Reply) (rs : List Run) → check ≡ check′ → Outcome check rs header-zeros header-zeros zeros zeros first′ last′ olds′ news′ r
+  shown : (check check′ : Reply) (rs : List Run) → check ≡ check′ → PortionDone check rs header-zeros header-zeros zeros zeros first′ last′ olds′ news′ r
       → Shown check′ rs s
   shown check check′ rs f p = rw e (record {
     reply = p .reply ∙ ap₂ (λ (c : Reply) (k : ℕ). c then Gives (halvesOf (ending k rs))) f places;

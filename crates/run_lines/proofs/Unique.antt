@@ -7,7 +7,7 @@ use Rattle.rules.specs.Replies.{Reply}
 use Rattle.compare.specs.declared.Compared.{Compared}
 use Rattle.compare.specs.Runs.{Run}
 use Rattle.compare.proofs.Unique.{one-ending}
-use Rattle.run_lines.specs.declared.Held.{Held}
+use Rattle.run_lines.specs.declared.FilesCompared.{FilesCompared}
 use Rattle.run_lines.proofs.ShownLaws.{same-parts}
 use Rattle.run_lines.specs.Shown.{Shown, FirstShown, ListsShown, FilesShown}
 
@@ -25,7 +25,7 @@ pub show-lists-once : (old : List ℕ) (i : ℕ) (new : List ℕ) (j : ℕ) (sta
 show-lists-once old i new j start r s p q = shown-once _ _ r s p q
 
 -- `show_files`: one comparison for the bytes that were read.
-pub show-files-once : (old′ new′ : List ℕ) (r s : Held) → r .old ≡ s .old → r .new ≡ s .new
+pub show-files-once : (old′ new′ : List ℕ) (r s : FilesCompared) → r .old ≡ s .old → r .new ≡ s .new
     → FilesShown old′ new′ r → FilesShown old′ new′ s → r .compared ≡ s .compared
 show-files-once old′ new′ r s a b p q =
     show-first-once (take (s .old) old′) (take (s .new) new′) 0 (r .compared) (s .compared) moved (q .shown)

@@ -11,7 +11,7 @@ use Rattle.compare.specs.Calls.{endingReply}
 use Rattle.image.specs.Images.{widthIn}
 use Rattle.image.specs.Places.{listWith}
 use Rattle.image_compare.specs.Comparing.{firstRules, compareFirstCheck, compareListsCheck}
-use Rattle.run_lines.specs.declared.Held.{Held}
+use Rattle.run_lines.specs.declared.FilesCompared.{FilesCompared}
 
 -- So many lines of runs at most.
 abbrev pub room : ℕ
@@ -40,7 +40,7 @@ ListsShown old i new j start r =
 
 -- The first lists of two files, of which no contract can say what they hold: what was read stands at the starts of the two slices
 -- afterwards, the counts say how much that is, and the comparison is that of these bytes.
-pub record FilesShown (old′ new′ : List ℕ) (r : Held) : Type 0 where
+pub record FilesShown (old′ new′ : List ℕ) (r : FilesCompared) : Type 0 where
   pub olds : r .old ≤ length old′
   pub news : r .new ≤ length new′
   pub shown : FirstShown (take (r .old) old′) (take (r .new) new′) 0 (r .compared)

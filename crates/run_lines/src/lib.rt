@@ -9,7 +9,7 @@ pub use showing::show_first;
 pub use showing::show_lists;
 
 // What comparing two files answers: how many bytes of each were read, and the comparison of these.
-pub struct Held {
+pub struct FilesCompared {
     pub old: usize,
     pub new: usize,
     pub compared: Compared,

@@ -3,7 +3,7 @@ ghost use Rattle.io.specs.Counts.{Counts};
 ghost use mathlib.Core.Path.{_≡_};
 ghost use Rattle.words.specs.Halves.{num};
 ghost use Rattle.run_lines.specs.Shown.{FirstShown, ListsShown, FilesShown};
-use crate::Held;
+use crate::FilesCompared;
 use crate::lines;
 use compare::Compared;
 use compare::Ending;
@@ -93,13 +93,13 @@ fn load(path: &[u8], bytes: &mut [u8]) -> usize
 
 // The lines of the comparison of the first lists of two files, which are read into the two slices. A slice needs room for a byte more than
 // the largest image: then a larger file is seen to be too large.
-pub fn show_files(old_path: &[u8], new_path: &[u8], old: &mut [u8], new: &mut [u8]) -> Held
+pub fn show_files(old_path: &[u8], new_path: &[u8], old: &mut [u8], new: &mut [u8]) -> FilesCompared
     ensures { λ r. ⌜ FilesShown (now (old .exit)) (now (new .exit)) r ⌝ }
 {
     let m = load(old_path, old);
     let n = load(new_path, new);
     let compared = show_first(&old[..m], &new[..n], Wire(words::wide(0)));
-    Held {
+    FilesCompared {
         old: m,
         new: n,
         compared,

@@ -16,7 +16,7 @@ use Rattle.prefixes.specs.Prefix.{checkPrefix, crossCheck, crossesAmong, crosse
 use Rattle.weaving.specs.Runs.{cut, runSizes}
 use Rattle.weaving.specs.Weave.{weave, dropped, merges}
 use Rattle.weaving.specs.Calls.{runsReply, weaveReply}
-use Rattle.compare.specs.Runs.{Run, run, runs as runsOf, runsTo, differences, portion, ending}
+use Rattle.compare.specs.Runs.{Run, run, runsFrom as runsOf, runsTo, differences, portion, ending}
 use Rattle.compare.specs.Calls.{compareCheck, portionCheck, resultsCheck}
 
 -- ---- what a row says

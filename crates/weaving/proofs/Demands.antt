@@ -13,46 +13,18 @@ use Rattle.rules.specs.Rules.{answer}
 use Rattle.rules.specs.declared.Refusal.{Refusal}
 use Rattle.rules.specs.Slices.{rulesOf, Lent}
 use Rattle.rules.specs.Replies.{Reply, Gives, Refuses, passed, _then_, unlessRefused}
-use Rattle.rules.specs.Checks.{widthCheck, lengthsCheck, sizeCheck, ruleCheck, rulesCheck, listCheck, headerCheck, roomCheck}
+use Rattle.rules.specs.Checks.{widthCheck, lengthsCheck, sizeCheck, ruleCheck, rulesCheck, listCheck, headerCheck, roomCheck, Sound}
 use Rattle.rules.specs.Calls.{checkList, answered, lookedUp}
 use Rattle.rules.proofs.ReplyLaws.{then-next, then-second, gives-refuses}
 use Rattle.rules.proofs.ZipLaws.{ap₃}
 use Rattle.rules.proofs.SliceLaws.{rules-length, rules-columns}
-use Rattle.rules.proofs.CheckLaws.{Sound, list-sound}
+use Rattle.rules.proofs.CheckLaws.{list-sound, list-first}
 use Rattle.weaving.specs.declared.Counted.{Counted}
 use Rattle.weaving.specs.declared.Tally.{Tally}
 use Rattle.weaving.specs.declared.Woven.{Woven}
 use Rattle.weaving.specs.Weave.{weave, kept, dropped, merges}
-use Rattle.weaving.specs.Calls.{filled, RunsDone, weaveReply, WeaveDone}
+use Rattle.weaving.specs.Calls.{padded, RunsDone, weaveReply, WeaveDone}
 use Rattle.weaving.proofs.Theorems.{weave-keeps-answers, counts-add-up, woven-list-passes}
-
--- ---- a list whose checks are followed by an answer passed them
-
--- The checks of rules give no values.
-rules-plain : (w l i : ℕ) (rs : List Rule) (ns : List ℕ) → rulesCheck w l i rs ≡ Gives ns → rulesCheck w l i rs ≡ passed
-unfolding rulesCheck
-rules-plain w l i [] ns e = refl
-rules-plain w l i (r ∷ rs) ns e =
-    let f = then-second (ruleCheck w l i r) _ ns e in
-    e ∙ sym f ∙ rules-plain w l (i + 1) rs ns f
-
--- Nor do those of a list.
-list-plain : (w l : ℕ) (cs vs ds ns : List ℕ) → checkList w l cs vs ds ≡ Gives ns → checkList w l cs vs ds ≡ passed
-unfolding checkList listCheck
-list-plain w l cs vs ds ns e =
-    let f = then-second (widthCheck w) _ ns e in
-    let g = then-second (lengthsCheck cs vs ds) _ ns f in
-    let h = then-second (sizeCheck l (length ds)) _ ns g in
-    e ∙ sym h ∙ rules-plain w l 1 (rulesOf cs vs ds) ns h
-
--- Where a list's checks come first and the call gives an answer, the list passed.
-list-passed : (w l : ℕ) (cs vs ds : List ℕ) (next : Reply) (ns : List ℕ) → (checkList w l cs vs ds then next) ≡ Gives ns
-    → checkList w l cs vs ds ≡ passed
-list-passed w l cs vs ds next ns e = go (checkList w l cs vs ds) refl e
-  where
-    go : (a : Reply) → checkList w l cs vs ds ≡ a → (a then next) ≡ Gives ns → checkList w l cs vs ds ≡ passed
-    go (Gives ms) p q = list-plain w l cs vs ds ms p
-    go (Refuses n i r) p q = absurd (gives-refuses (sym q))
 
 -- ---- the kept places
 
@@ -65,8 +37,8 @@ abbrev pub keptDecisions : Tally → List ℕ → List ℕ
 keptDecisions t decisions = take (t .kept) decisions
 
 -- The first places of a slice that was filled.
-filled-front : (k n : ℕ) (xs old : List ℕ) → length xs ≡ k → take k (filled n xs old) ≡ xs
-unfolding filled
+filled-front : (k n : ℕ) (xs old : List ℕ) → length xs ≡ k → take k (padded n xs old) ≡ xs
+unfolding padded
 filled-front k n xs old e = take-at xs _ k e
 
 -- ---- weaving
@@ -83,7 +55,7 @@ module _ (w : ℕ) (cs vs ds ocs ovs ods ocs′ ovs′ ods′ : List ℕ) (t : T
   -- the list lent passed its checks
   source-passes : checkList w 1 cs vs ds ≡ passed
   unfolding weaveReply
-  source-passes = list-passed w 1 cs vs ds _ _ said
+  source-passes = list-first w 1 cs vs ds _ said
 
   source-sound : Sound w cs vs ds
   source-sound = list-sound w 1 cs vs ds source-passes
@@ -108,10 +80,10 @@ module _ (w : ℕ) (cs vs ds ocs ovs ods ocs′ ovs′ ods′ : List ℕ) (t : T
   joins = let e = counts in cc
 
   -- where the call is not refused, the kept places of a slice hold what it was filled with
-  front : (k n : ℕ) (xs old new : List ℕ) → new ≡ unlessRefused (weaveReply w cs vs ds ocs ovs ods) (filled n xs old) old → length xs ≡ k
+  front : (k n : ℕ) (xs old new : List ℕ) → new ≡ unlessRefused (weaveReply w cs vs ds ocs ovs ods) (padded n xs old) old → length xs ≡ k
       → take k new ≡ xs
   front k n xs old new e f =
-      ap (take k) (e ∙ ap (λ (r : Reply). unlessRefused r (filled n xs old) old) said) ∙ filled-front k n xs old f
+      ap (take k) (e ∙ ap (λ (r : Reply). unlessRefused r (padded n xs old) old) said) ∙ filled-front k n xs old f
 
   -- a column of the woven list has an entry for each kept rule, and two where it holds words
   column-length : (f : Rule → ℕ) → length (map f woven) ≡ t .kept

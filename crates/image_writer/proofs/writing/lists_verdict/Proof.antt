@@ -7,7 +7,7 @@ use Rattle.image_writer.proofs.GivenLaws.{sum-turn, names-small, cut-st
 use native.Mathlib.Nat.{add-sub-cancel-left}
 use Rattle.rules.specs.Slices.{rulesOf}
 use Rattle.image.specs.Checks.{listsCheck}
-use Rattle.image_writer.specs.Writing.{sumOf, cut}
+use Rattle.image_writer.specs.Writing.{sumOf, listsFrom}
 use borrow.Author.Needs.{needs}
 use Rattle.image_writer.proofs.writing.lists_verdict.Statement.{statement}
 use Rattle.image_writer.proofs.writing.lists_verdict.Tie as tie
@@ -19,7 +19,7 @@ use Rattle.rules.proofs.check_list_as.Reads as check-list-as-reads
 abbrev Inv-loop : tie.InvT-loop
 Inv-loop width ids counts care value decision from₀ i₀ from i =
     (i ≤ length ids) × (from + sumOf (drop i counts) ≡ length decision)
-    × (listsCheck width 1 (cut ids counts (rulesOf care value decision)) ≡ listsCheck width (i + 1) (cut (drop i ids) (drop i counts) (drop from (rulesOf care value decision))))
+    × (listsCheck width 1 (listsFrom ids counts (rulesOf care value decision)) ≡ listsCheck width (i + 1) (listsFrom (drop i ids) (drop i counts) (drop from (rulesOf care value decision))))
 
 abbrev μ-loop : tie.MeasureT-loop
 μ-loop width ids counts care value decision from₀ i₀ from i = length ids - i
