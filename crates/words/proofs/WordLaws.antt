@@ -1,11 +1,11 @@
 -- Laws of words and the numbers that they hold.
 use mathlib.Core.Path.{_≡_, refl, sym, ap, ap₂, _∙_, subst}
 use mathlib.Core.Bool.{Bool, true, false, _&&_, _||_}
-use Prim.Native.Nat.{ℕ, zero, suc, _+_, _-_, _*_, _/_, _%_, _^_, _≤_, _<_, min}
+use Prim.Native.Nat.{ℕ, _+_, _-_, _*_, _/_, _%_, _^_, _≤_, _<_, min}
 use native.Mathlib.Omega.{arith}
 use native.Mathlib.Nat.{add-comm, lt-of-lt-of-le, div-lt-iff-lt-mul, add-mul-mod-self-right, mod-eq-of-lt, mod-add-mod, le-of-lt, min-eq-left, min-eq-right}
 use lib.Bits.{bitAnd, bitOr, bitXor, and-lt, or-lt, xor-lt}
-use lib.Count.{ones, ones-le, trailingZeros, leadingZeros}
+use lib.Count.{ones, leadingZeros}
 use lib.Dec.{eqb, ltb}
 use lib.Pow.{pow-add, pow-pos, pow-lt, pow-mono}
 use borrow.Author.Tests.{eq-eqb, ne-eqb, lt-ltb, le-ltb}
@@ -13,7 +13,7 @@ use Rattle.words.specs.declared.Word.{Word}
 use Rattle.words.specs.Words.{bit, setBits, without}
 use Rattle.words.specs.Halves.{word, num, halves, limit}
 use Rattle.words.proofs.BitLaws.{setBits-ones, ones-zero, without-xor, bit-high}
-use Rattle.words.proofs.SeamLaws.{seam-low, seam-high, and-seam, or-seam, xor-seam, setBits-seam, bit-below, bit-above, eqb-seam, ltb-seam, below-low, below-high, trailing-low, trailing-high, leading-low, leading-high, two-lt, two-sum, lt-high}
+use Rattle.words.proofs.SeamLaws.{seam-low, seam-high, and-seam, or-seam, xor-seam, setBits-seam, bit-below, bit-above, eqb-seam, ltb-seam, below-low, below-high, leading-low, leading-high, two-lt, two-sum, lt-high}
 
 ones-some : (n : ℕ) → (n ≡ 0 → ⊥) → 0 < ones n
 ones-some n h = above-none (ones n) (λ (e : ones n ≡ 0). h (ones-zero n e))
@@ -254,17 +254,6 @@ module _ (a : Word) (p : a .low < 2 ^ 64) where
 
   pub below-all : (w : ℕ) → a .high < 2 ^ 64 → 128 ≤ w → true ≡ ltb (num a) (2 ^ w)
   below-all w h q = sym (lt-ltb _ _ (lt-of-lt-of-le (subst (λ (x : ℕ). num a < x) limit-pow (num-lt a p h)) (pow-mono q)))
-
-  pub trailing-here : (a .low ≡ 0 → ⊥) → trailingZeros 64 (a .low) ≡ trailingZeros 128 (num a)
-  unfolding num
-  trailing-here e =
-      sym (ap (trailingZeros 128) (add-comm (a .low) (a .high * 2 ^ 64)) ∙ trailing-low 128 64 64 (a .low) (a .high) refl p e)
-
-  pub trailing-there : a .low ≡ 0 → 64 + trailingZeros 64 (a .high) ≡ trailingZeros 128 (num a)
-  unfolding num
-  trailing-there e =
-      sym (ap (trailingZeros 128) (let f : a .low + a .high * 2 ^ 64 ≡ a .high * 2 ^ 64 = omega arith in f)
-      ∙ trailing-high 128 64 64 (a .high) refl)
 
   pub leading-here : a .high < 2 ^ 64 → (a .high ≡ 0 → ⊥) → leadingZeros 64 (a .high) ≡ leadingZeros 128 (num a)
   unfolding num

@@ -36,7 +36,6 @@ pub use steps::next;
 pub use steps::plus;
 pub use steps::pushed;
 pub use zeros::leading_zeros;
-pub use zeros::trailing_zeros;
 
 // The number low + high * 2^64.
 pub struct Word {
