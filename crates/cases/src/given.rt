@@ -74,7 +74,7 @@ fn first_of(x: Word, way: Way) -> Word {
 fn rest_of(x: Word, way: Way) -> Word {
     match way {
         Way::Same => x,
-        Way::Up => words::next(x),
+        Way::Up => words::plus(x, words::wide(1)),
         Way::Bytes => Word {
             low: std::num::wrapping_add_u64(x.low / 256, x.high % 256 * 72057594037927936),
             high: x.high / 256,
@@ -125,14 +125,19 @@ fn bits_of(bytes: u64) -> u32 {
     0
 }
 
+// a less b, where b is no greater: b is added to a turned over, and the sum turned over.
+fn difference(a: Word, b: Word) -> Word {
+    words::flip(words::plus(words::flip(a), b))
+}
+
 // `2 to 9`: each number from the first to the last. No slice has room for 100,000.
 fn counted_up(s: &[u8], first: Word, at: usize, most: Word) -> Item {
     let from = word_start(s, after(s, at, TO));
     let last = word_in(s, from, word_end(s, from), most);
-    let more = words::capped(words::minus(last.word, first));
     if words::less(last.word, first) {
         return no_item(at);
     }
+    let more = words::capped(difference(last.word, first));
     if more < 100000 {
         return Item {
             value: first,

@@ -3,7 +3,7 @@ use mathlib.Core.Path.{_≡_, refl, sym, ap, ap₂, _∙_, subst}
 use mathlib.Core.Bool.{Bool, true, false, _&&_, _||_}
 use Prim.Native.Nat.{ℕ, _+_, _-_, _*_, _/_, _%_, _^_, _≤_, _<_, min}
 use native.Mathlib.Omega.{arith}
-use native.Mathlib.Nat.{add-comm, lt-of-lt-of-le, div-lt-iff-lt-mul, add-mul-mod-self-right, mod-eq-of-lt, mod-add-mod, le-of-lt, min-eq-left, min-eq-right}
+use native.Mathlib.Nat.{add-comm, lt-of-lt-of-le, div-lt-iff-lt-mul, add-mul-mod-self-right, mod-eq-of-lt, mod-add-mod, min-eq-left, min-eq-right}
 use lib.Bits.{bitAnd, bitOr, bitXor, and-lt, or-lt, xor-lt}
 use lib.Count.{ones, leadingZeros}
 use lib.Dec.{eqb, ltb}
@@ -13,7 +13,7 @@ use Rattle.words.specs.declared.Word.{Word}
 use Rattle.words.specs.Words.{bit, setBits, without}
 use Rattle.words.specs.Halves.{word, num, halves, limit}
 use Rattle.words.proofs.BitLaws.{setBits-ones, ones-zero, without-xor, bit-high}
-use Rattle.words.proofs.SeamLaws.{seam-low, seam-high, and-seam, or-seam, xor-seam, setBits-seam, bit-below, bit-above, eqb-seam, ltb-seam, below-low, below-high, leading-low, leading-high, two-lt, two-sum, lt-high}
+use Rattle.words.proofs.SeamLaws.{seam-low, seam-high, and-seam, or-seam, xor-seam, setBits-seam, bit-below, bit-above, eqb-seam, ltb-seam, below-low, below-high, leading-low, leading-high, two-lt, two-sum}
 
 ones-some : (n : ℕ) → (n ≡ 0 → ⊥) → 0 < ones n
 ones-some n h = above-none (ones n) (λ (e : ones n ≡ 0). h (ones-zero n e))
@@ -103,41 +103,10 @@ pub plus-made : (a b : Word) (l h c d : ℕ) → l < 2 ^ 64 → h < 2 ^ 64 → a
     → a .high + b .high + c ≡ h + d * 2 ^ 64 → word l h ≡ halves ((num a + num b) % limit)
 plus-made a b l h c d p q e f = cut l h d (num a + num b) p q (sum a b l h c d p q e f)
 
-num-one : num (word 1 0) ≡ 1
-unfolding num
-num-one = refl
-
-pub next-made : (a : Word) (l h c d : ℕ) → l < 2 ^ 64 → h < 2 ^ 64 → a .low + 1 ≡ l + c * 2 ^ 64
-    → a .high + c ≡ h + d * 2 ^ 64 → word l h ≡ halves ((num a + 1) % limit)
-next-made a l h c d p q e f =
-    plus-made a (word 1 0) l h c d p q e (omega arith) ∙ ap (λ (x : ℕ). halves ((num a + x) % limit)) num-one
-
--- the difference of two words, half by half: c is borrowed from the high halves
-pub minus-made : (a b : Word) (l h c : ℕ) → l < 2 ^ 64 → l + b .low ≡ a .low + c * 2 ^ 64 → h + b .high + c ≡ a .high
-    → word l h ≡ halves (num a - num b)
-unfolding num
-minus-made a b l h c p e f =
-    made l h _ p (left (l + h * 2 ^ 64) (b .low + b .high * 2 ^ 64) _
-    (two-sum (2 ^ 64) l h (b .low) (b .high) (a .low) (a .high) c 0 e (omega arith)))
-  where
-    left : (x y z : ℕ) → x + y ≡ z + 0 → z - y ≡ x
-    left x y z e = omega arith
-
--- nothing is left where the number taken away is no less
-minus-none : (x y : ℕ) → x ≤ y → word 0 0 ≡ halves (x - y)
-minus-none x y h = made 0 0 (x - y) (omega arith) (omega arith)
-
-pub minus-high : (a b : Word) → a .low < 2 ^ 64 → b .low < 2 ^ 64 → a .high < b .high → word 0 0 ≡ halves (num a - num b)
-unfolding num
-minus-high a b p q h = minus-none _ _ (le-of-lt (lt-high (2 ^ 64) (a .low) (a .high) (b .low) (b .high) p q h))
-
-pub minus-low : (a b : Word) → a .high ≡ b .high → a .low ≤ b .low → word 0 0 ≡ halves (num a - num b)
-unfolding num
-minus-low a b e h = minus-none _ _ (omega arith)
-
+-- the number before a word's, half by half: c is borrowed from the high half
 pub before-made : (a : Word) (l h c : ℕ) → l < 2 ^ 64 → l + 1 ≡ a .low + c * 2 ^ 64 → h + c ≡ a .high → word l h ≡ halves (num a - 1)
-before-made a l h c p e f =
-    minus-made a (word 1 0) l h c p e (omega arith) ∙ ap (λ (x : ℕ). halves (num a - x)) num-one
+unfolding num
+before-made a l h c p e f = made l h _ p (omega arith)
 
 -- 0 has no number before it
 pub before-zero : (a : Word) → a .low ≡ 0 → a .high ≡ 0 → a ≡ halves (num a - 1)

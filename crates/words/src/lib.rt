@@ -31,8 +31,6 @@ pub use powers::upper;
 pub use slices::put_word;
 pub use slices::word_at;
 pub use steps::before;
-pub use steps::minus;
-pub use steps::next;
 pub use steps::plus;
 pub use steps::pushed;
 pub use zeros::leading_zeros;
