@@ -2,6 +2,7 @@
 pub mod PutLaws
 pub mod NumberLaws
 pub mod DecimalLaws
+pub mod DigitLaws
 pub mod RoundTrip
 pub mod PatternLaws
 pub mod Unique

@@ -1,4 +1,5 @@
 pub mod Put
 pub mod Numbers
 pub mod Decimal
+pub mod Digits
 pub mod Patterns

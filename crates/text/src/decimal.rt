@@ -5,6 +5,8 @@ ghost use lib.ListN.{length, drop};
 ghost use Rattle.words.specs.Halves.{num};
 ghost use Rattle.text.specs.Decimal.{decimal as decimalOf};
 ghost use Rattle.text.specs.Put.{Put};
+use crate::digits::last_digit;
+use crate::digits::tenth;
 use words::Word;
 
 // Puts the digits of a number at the end of `space`, and answers where the first one stands. The greatest number has 39.
@@ -16,8 +18,8 @@ fn digits_at_end(number: Word, space: &mut [u8; 39]) -> usize
     let mut at: usize = 39;
     loop {
         at -= 1;
-        space[at] = (48 + words::last_digit(rest)) as u8;
-        let more = words::tenth(rest);
+        space[at] = (48 + last_digit(rest)) as u8;
+        let more = tenth(rest);
         if words::is_zero(more) {
             return at;
         }

@@ -4,7 +4,8 @@ ghost use lib.ListN.{drop};
 ghost use Rattle.words.specs.Halves.{limit};
 ghost use Rattle.text.specs.Numbers.{digitOf, goesOn, marked as markedOf, numberOf};
 use crate::Number;
-use words::Growth;
+use crate::digits::Growth;
+use crate::digits::grown;
 use words::Word;
 
 // The value of a byte as a digit, 16 where it is none.
@@ -44,7 +45,7 @@ fn digits_from(word: &[u8], from: usize, base: u32) -> Number
         if base <= d {
             return Number::Nothing;
         }
-        let g = words::grown(n, base, d);
+        let g = grown(n, base, d);
         let Growth::Value(more) = g else {
             return Number::Nothing;
         };

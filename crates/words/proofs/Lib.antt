@@ -4,5 +4,4 @@ pub mod BitLaws
 pub mod SeamLaws
 pub mod WordLaws
 pub mod SliceLaws
-pub mod DigitLaws
 pub mod Unique

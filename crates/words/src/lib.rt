@@ -1,6 +1,5 @@
 // Words of 128 bits, held as two machine words. A contract says which number the result holds, over natural numbers.
 mod bits;
-mod decimal;
 mod machine;
 mod order;
 mod powers;
@@ -16,9 +15,6 @@ pub use bits::ones;
 pub use bits::or;
 pub use bits::without;
 pub use bits::xor;
-pub use decimal::grown;
-pub use decimal::last_digit;
-pub use decimal::tenth;
 pub use machine::capped;
 pub use machine::wide;
 pub use order::below;
@@ -39,10 +35,4 @@ pub use zeros::leading_zeros;
 pub struct Word {
     pub low: u64,
     pub high: u64,
-}
-
-// A number that was made greater.
-pub enum Growth {
-    Value(Word),
-    TooBig,
 }

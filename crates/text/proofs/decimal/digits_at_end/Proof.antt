@@ -13,8 +13,8 @@ use Rattle.text.proofs.decimal.digits_at_end.Statement.{statement}
 use Rattle.text.proofs.decimal.digits_at_end.Tie as tie
 use Rattle.text.proofs.decimal.digits_at_end.Reads as reads
 use Rattle.text.proofs.decimal.digits_at_end.Lts as lts
-use Rattle.words.proofs.last_digit.Reads as last-digit-reads
-use Rattle.words.proofs.tenth.Reads as tenth-reads
+use Rattle.text.proofs.digits.last_digit.Reads as last-digit-reads
+use Rattle.text.proofs.digits.tenth.Reads as tenth-reads
 use Rattle.words.proofs.is_zero.Reads as is-zero-reads
 
 abbrev Inv-loop : tie.InvT-loop

@@ -3,7 +3,7 @@ use Rattle.text.specs.declared.Number.{Number}
 use Rattle.text.specs.Numbers.{goesOn}
 use Rattle.words.specs.Halves.{num, limit}
 use Rattle.words.proofs.WordLaws.{halves-num}
-use Rattle.words.proofs.DigitLaws.{grown-value, grown-big}
+use Rattle.text.proofs.DigitLaws.{grown-value, grown-big}
 use lib.ListN.{length, drop}
 use Prim.Native.Nat.{_-_, _^_, _<_}
 use borrow.Author.Needs.{needs}
@@ -14,7 +14,7 @@ use Rattle.text.proofs.numbers.digits_from.Tie as tie
 use Rattle.text.proofs.numbers.digits_from.Reads as reads
 use Rattle.text.proofs.numbers.digits_from.Lts as lts
 use Rattle.text.proofs.numbers.digit.Reads as digit-reads
-use Rattle.words.proofs.grown.Reads as grown-reads
+use Rattle.text.proofs.digits.grown.Reads as grown-reads
 
 abbrev Inv-loop : tie.InvT-loop
 Inv-loop word from base n₀ i₀ n i =
