@@ -12,7 +12,7 @@ use borrow.Author.Tests.{eq-eqb, ne-eqb, lt-ltb, le-ltb}
 use Rattle.words.specs.declared.Word.{Word}
 use Rattle.words.specs.Words.{bit, setBits, without}
 use Rattle.words.specs.Halves.{word, num, halves, limit}
-use Rattle.words.proofs.BitLaws.{setBits-ones, ones-zero, without-xor, bit-high}
+use Rattle.words.proofs.BitLaws.{setBits-ones, ones-zero, without-flip, bit-high}
 use Rattle.words.proofs.SeamLaws.{seam-low, seam-high, and-seam, or-seam, xor-seam, setBits-seam, bit-below, bit-above, eqb-seam, ltb-seam, below-low, below-high, leading-low, leading-high, two-lt, two-sum}
 
 ones-some : (n : ℕ) → (n ≡ 0 → ⊥) → 0 < ones n
@@ -144,15 +144,6 @@ module _ (a b : Word) (p : a .low < 2 ^ 64) (q : b .low < 2 ^ 64) where
   unfolding num
   xor-made = made _ _ _ (xor-lt 64 _ _ p q) (xor-seam 64 (a .low) (a .high) (b .low) (b .high) p q)
 
-  pub without-made : word (bitXor (a .low) (bitAnd (a .low) (b .low))) (bitXor (a .high) (bitAnd (a .high) (b .high)))
-      ≡ halves (without (num a) (num b))
-  unfolding num
-  without-made =
-      let s : bitAnd (a .low) (b .low) < 2 ^ 64 = and-lt 64 _ _ p q in
-      made _ _ _ (xor-lt 64 _ _ p s)
-      (without-xor (num a) (num b) ∙ ap (bitXor (num a)) (and-seam 64 (a .low) (a .high) (b .low) (b .high) p q)
-      ∙ xor-seam 64 (a .low) (a .high) (bitAnd (a .low) (b .low)) (bitAnd (a .high) (b .high)) p s)
-
   pub same-made : (eqb (a .low) (b .low) && eqb (a .high) (b .high)) ≡ eqb (num a) (num b)
   unfolding num
   same-made = sym (eqb-seam 64 (a .low) (a .high) (b .low) (b .high) p q)
@@ -174,10 +165,6 @@ module _ (a b : Word) (p : a .low < 2 ^ 64) (q : b .low < 2 ^ 64) where
       or-false false = refl
 
 module _ (a : Word) (p : a .low < 2 ^ 64) where
-  pub zero-made : (eqb (a .low) 0 && eqb (a .high) 0) ≡ eqb (num a) 0
-  unfolding num
-  zero-made = sym (eqb-seam 64 (a .low) (a .high) 0 0 p (omega arith))
-
   pub ones-made : ones (a .low) + ones (a .high) ≡ setBits (num a)
   unfolding num
   ones-made =
@@ -234,6 +221,18 @@ module _ (a : Word) (p : a .low < 2 ^ 64) where
   leading-there e =
       sym (ap (leadingZeros 128) (let f : a .low + a .high * 2 ^ 64 ≡ a .low = omega arith in f)
       ∙ leading-low 64 64 (a .low) p)
+
+-- ---- calls that are made of other calls
+
+-- the bits of a that b does not have: those that a shares with b turned over
+pub without-made : (a b : Word) {x y : Word} → num a < limit → num b < limit → x ≡ halves (limit - 1 - num b) → y ≡ halves (bitAnd (num a) (num x))
+    → y ≡ halves (without (num a) (num b))
+unfolding limit
+without-made a b p q e f = f ∙ ap halves (ap (bitAnd (num a)) (holds e) ∙ sym (without-flip 128 (num a) (num b) p q))
+
+-- no bit is set where a word is the one that holds 0
+pub zero-made : (a : Word) {z : Word} {t : Bool} → z ≡ halves 0 → t ≡ eqb (num a) (num z) → t ≡ eqb (num a) 0
+zero-made a e f = f ∙ ap (eqb (num a)) (holds e)
 
 -- ---- powers of two
 

@@ -41,10 +41,7 @@ pub fn xor(a: Word, b: Word) -> Word
 pub fn without(a: Word, b: Word) -> Word
     ensures { λ r. ⌜ r ≡ halves (withoutOf (num a) (num b)) ⌝ }
 {
-    Word {
-        low: a.low ^ (a.low & b.low),
-        high: a.high ^ (a.high & b.high),
-    }
+    and(a, flip(b))
 }
 
 // All 128 bits turned over.
