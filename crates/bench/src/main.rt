@@ -1,5 +1,5 @@
-// The bench program: compares the first list of old.img with that of new.img, in the folder that it is run in, and writes
-// the runs of headers on which their answers differ. A file that is missing counts as one of no bytes.
+// The bench program: takes old.img and new.img from the folder that it is run in, compares their first lists, and writes the runs
+// of headers on which these answer differently. A file that is not there is read as one of no bytes.
 use compare::Ending;
 
 // There is room for a byte more than the largest image, so that a larger file is refused and not cut.

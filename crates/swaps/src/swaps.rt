@@ -25,7 +25,7 @@ use words::Word;
 // A header in swapped order. Its word is private: outside this module one comes only from `apply`.
 pub struct Swapped(Word);
 
-// An order of the places 1 to width: entry k names the old place that moves to new place k. Entries past the width are 0.
+// An order of the places 1 to width: what stands at the place that entry k names comes to place k. Entries past the width are 0.
 pub struct Swap {
     pub places: [u8; 128],
     pub width: u32,
