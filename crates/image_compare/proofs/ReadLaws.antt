@@ -17,7 +17,7 @@ use Rattle.rules.specs.Replies.{Reply, Gives, Refuses, passed, _then_, refusalR
 use Rattle.rules.specs.Checks.{lengthsCheck, roomCheck}
 use Rattle.rules.specs.Calls.{checkList}
 use Rattle.rules.proofs.ReplyLaws.{then-next, then-second, gives-refuses, one-value}
-use Rattle.rules.proofs.CheckLaws.{sound-list, lengths-yes, room-yes}
+use Rattle.rules.proofs.CheckLaws.{sound-list, lengths-yes, room-yes, width-inside}
 use Rattle.rules.proofs.SliceLaws.{rules-columns}
 use Rattle.image.specs.declared.Outcome.{Outcome}
 use Rattle.image.specs.Images.{widthIn}
@@ -76,8 +76,7 @@ held-passes b id l n c v d p h =
     let ds = held-decisions n (listWith b id) c v d h in
     sound-list (widthIn b) l (take (n * 2) c) (take (n * 2) v) (take n d)
     (record {
-      least = f .least;
-      most = f .most;
+      width = width-inside (widthIn b) (f .least) (f .most);
       lent = record { values = sym vs ∙ cs; decisions = ap (λ (k : ℕ). k * 2) (sym ds) ∙ cs };
       few = omega (arith, ds, f .few, h .size, length-with b id);
       valid = subst⁻¹ (All (Valid (widthIn b))) (held-rules n (listWith b id) c v d h) (f .valid);
