@@ -1,4 +1,4 @@
-// The calls on lists of rules and on rules: the crate `rules`, and the lookup of a swapped header beside the other two.
+// The calls on lists of rules and on rules: the crates `rules` and `pairs`, and the lookup of a swapped header beside the other two.
 use crate::given;
 use crate::names;
 use crate::show;
@@ -163,18 +163,18 @@ fn pair(call: usize, width: u32, s: &[u8], from: usize, w: &[u8], to: usize) -> 
 
 fn asked(call: usize, width: u32, a: Rule, b: Rule, w: &[u8], to: usize) -> usize {
     if call == names::COVERS {
-        return show::holds(w, to, rules::covers(width, a, b));
+        return show::holds(w, to, pairs::covers(width, a, b));
     }
     if call == names::CROSSES {
-        return show::holds(w, to, rules::crosses(width, a, b));
+        return show::holds(w, to, pairs::crosses(width, a, b));
     }
     if call == names::DISTANCE {
-        return show::measured(w, to, rules::distance(width, a, b));
+        return show::measured(w, to, pairs::distance(width, a, b));
     }
     if call == names::RULE_COVERS {
-        return show::yes_or_no(w, to, rules::rule_covers(a, b));
+        return show::yes_or_no(w, to, pairs::rule_covers(a, b));
     }
-    show::yes_or_no(w, to, rules::rule_crosses(a, b))
+    show::yes_or_no(w, to, pairs::rule_crosses(a, b))
 }
 
 // `list`, then `place`, counted from 0.

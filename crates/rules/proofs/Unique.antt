@@ -1,7 +1,6 @@
 -- No second result: for each public call, two results that meet its promise are equal.
 use mathlib.Core.Path.{_≡_, sym, _∙_}
 use mathlib.Core.List.{List}
-use mathlib.Core.Bool.{Bool}
 use Prim.Native.Nat.{ℕ}
 use Rattle.rules.specs.declared.Rule.{Rule as Held}
 use Rattle.rules.specs.Rule.{Rule, held}
@@ -10,14 +9,11 @@ use Rattle.words.specs.Halves.{num}
 use Rattle.rules.specs.declared.Wire.{Wire}
 use Rattle.rules.specs.declared.Verdict.{Verdict}
 use Rattle.rules.specs.declared.Looked.{Looked}
-use Rattle.rules.specs.declared.Holds.{Holds}
-use Rattle.rules.specs.declared.Measured.{Measured}
-use Rattle.rules.specs.Rules.{covers, crosses}
 use Rattle.rules.specs.Slices.{rulesOf, ruleAt, Placed}
-use Rattle.rules.specs.Replies.{Refuses, verdictReply, lookedReply, holdsReply, measuredReply}
+use Rattle.rules.specs.Replies.{Refuses, verdictReply, lookedReply}
 use Rattle.rules.specs.Checks.{widthCheck}
-use Rattle.rules.specs.Calls.{checkRule, checkList, lookedUp, coversReply, crossesReply, distanceReply}
-use Rattle.rules.proofs.ReplyLaws.{one-verdict, one-looked, one-holds, one-measured}
+use Rattle.rules.specs.Calls.{checkRule, checkList, lookedUp}
+use Rattle.rules.proofs.ReplyLaws.{one-verdict, one-looked}
 
 -- two things that equal a third
 both : {A : Type 0} {a b c : A} → a ≡ c → b ≡ c → a ≡ b
@@ -49,25 +45,6 @@ lookup-number-once w cs vs ds h a b p q = one-looked a b (both p q)
 pub lookup-once : (w : ℕ) (cs vs ds : List ℕ) (h : Wire) (a b : Looked) → lookedReply a ≡ lookedUp w cs vs ds (num (h .0))
     → lookedReply b ≡ lookedUp w cs vs ds (num (h .0)) → a ≡ b
 lookup-once w cs vs ds h a b p q = one-looked a b (both p q)
-
--- `covers`
-pub covers-once : (w : ℕ) (x y : Rule) (a b : Holds) → holdsReply a ≡ coversReply w x y → holdsReply b ≡ coversReply w x y → a ≡ b
-covers-once w x y a b p q = one-holds a b (both p q)
-
--- `crosses`
-pub crosses-once : (w : ℕ) (x y : Rule) (a b : Holds) → holdsReply a ≡ crossesReply w x y → holdsReply b ≡ crossesReply w x y → a ≡ b
-crosses-once w x y a b p q = one-holds a b (both p q)
-
--- `distance`
-pub distance-once : (w : ℕ) (x y : Rule) (a b : Measured) → measuredReply a ≡ distanceReply w x y → measuredReply b ≡ distanceReply w x y → a ≡ b
-distance-once w x y a b p q = one-measured a b (both p q)
-
--- `rule_covers` and `rule_crosses`
-pub rule-covers-once : (x y : Rule) (a b : Bool) → a ≡ covers x y → b ≡ covers x y → a ≡ b
-rule-covers-once x y a b p q = both p q
-
-pub rule-crosses-once : (x y : Rule) (a b : Bool) → a ≡ crosses x y → b ≡ crosses x y → a ≡ b
-rule-crosses-once x y a b p q = both p q
 
 -- `rule_at`
 pub rule-at-once : (cs vs ds : List ℕ) (i : ℕ) (a b : Held) → a ≡ held (ruleAt (rulesOf cs vs ds) i) → b ≡ held (ruleAt (rulesOf cs vs ds) i) → a ≡ b

@@ -1,8 +1,6 @@
-// The rule library: rules, lists of rules, refusals and answers; checking, looking up, and comparing two rules.
+// The rule library: rules, lists of rules, refusals and answers; checking and looking up.
 mod checks;
 mod lookups;
-mod pairs;
-mod patterns;
 mod slices;
 
 pub use checks::check_list;
@@ -12,11 +10,6 @@ pub use checks::check_width;
 pub use checks::refused;
 pub use lookups::lookup;
 pub use lookups::lookup_number;
-pub use pairs::covers;
-pub use pairs::crosses;
-pub use pairs::distance;
-pub use patterns::rule_covers;
-pub use patterns::rule_crosses;
 pub use slices::put_rule;
 pub use slices::rule_at;
 use words::Word;
@@ -49,18 +42,5 @@ pub enum Verdict {
 pub enum Looked {
     Decision(u16),
     Miss,
-    Refused(Refusal),
-}
-
-// Whether something holds of two rules.
-pub enum Holds {
-    Yes,
-    No,
-    Refused(Refusal),
-}
-
-// A number of places.
-pub enum Measured {
-    Places(u32),
     Refused(Refusal),
 }

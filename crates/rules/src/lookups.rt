@@ -1,19 +1,27 @@
 // Looking a header up: the first match decides.
 ghost use mathlib.Core.Path.{_≡_};
 ghost use Rattle.words.specs.Halves.{num};
-ghost use Rattle.rules.specs.Rules.{position};
+ghost use Rattle.rules.specs.Rule.{ruleOf};
+ghost use Rattle.rules.specs.Rules.{matches, position};
 ghost use Rattle.rules.specs.Slices.{rulesOf, Lent};
 ghost use Rattle.rules.specs.Replies.{lookedReply};
 ghost use Rattle.rules.specs.Calls.{lookedUp};
 ghost use Rattle.rules.specs.Found.{FirstAt};
 use crate::Looked;
 use crate::Refusal;
+use crate::Rule;
 use crate::Verdict;
 use crate::Wire;
 use crate::checks::check_list;
-use crate::patterns::rule_matches;
 use crate::slices::rule_at;
 use words::Word;
+
+// Whether the header has the rule's value where the rule cares.
+fn rule_matches(rule: Rule, header: Word) -> bool
+    ensures { λ r. ⌜ r ≡ matches (ruleOf rule) (num header) ⌝ }
+{
+    words::same(words::and(header, rule.care), rule.value)
+}
 
 // Where the first matching rule stands, counted from 0.
 pub(crate) enum FirstMatch {

@@ -1,0 +1,2 @@
+-- The laws of the calls on two rules.
+pub mod Unique
