@@ -2,7 +2,7 @@
 ghost use mathlib.Core.Path.{_≡_};
 ghost use Rattle.words.specs.Halves.{num};
 ghost use Rattle.rules.specs.Rule.{ruleOf};
-ghost use Rattle.rules.specs.Rules.{matches, position};
+ghost use Rattle.rules.specs.Rules.{matches};
 ghost use Rattle.rules.specs.Slices.{rulesOf, Lent};
 ghost use Rattle.rules.specs.Replies.{lookedReply};
 ghost use Rattle.rules.specs.Calls.{lookedUp};
