@@ -67,7 +67,7 @@ fn first_of(x: Word, way: Way) -> Word {
     match way {
         Way::Same => x,
         Way::Up => x,
-        Way::Bytes => words::and(x, words::lowest(8)),
+        Way::Bytes => bits::and(x, bits::lowest(8)),
     }
 }
 
@@ -101,7 +101,7 @@ fn no_item(start: usize) -> Item {
 
 // `12:4`: a number in so many bytes, the lowest first, which has to fit. Only a slice of bytes has it.
 fn in_bytes(s: &[u8], from: usize, colon: usize, end: usize, most: Word) -> Item {
-    let x = word_in(s, from, colon, words::lowest(128));
+    let x = word_in(s, from, colon, bits::lowest(128));
     let value = x.word;
     let n = number_in(s, next(colon), end, 16);
     if words::same(most, words::wide(255)) {
@@ -127,7 +127,7 @@ fn bits_of(bytes: u64) -> u32 {
 
 // a less b, where b is no greater: b is added to a turned over, and the sum turned over.
 fn difference(a: Word, b: Word) -> Word {
-    words::flip(words::plus(words::flip(a), b))
+    bits::flip(words::plus(bits::flip(a), b))
 }
 
 // `2 to 9`: each number from the first to the last. No slice has room for 100,000.
@@ -247,12 +247,12 @@ fn words_to(s: &[u8], from: usize, most: Word, out: &mut [u64]) -> Filled {
 }
 
 pub fn words(s: &[u8], from: usize, out: &mut [u64]) -> Filled {
-    words_to(s, from, words::lowest(128), out)
+    words_to(s, from, bits::lowest(128), out)
 }
 
 // A slice of words: its words, and after `half` one more number at its end. Its numbers are counted, two to a word.
 pub fn lent(s: &[u8], from: usize, out: &mut [u64]) -> Filled {
-    let f = words_after(s, from, words::lowest(128), out);
+    let f = words_after(s, from, bits::lowest(128), out);
     let count = std::num::wrapping_add_usize(f.count, f.count);
     if is_next(s, f.at, HALF) {
         let half = number(s, after(s, f.at, HALF), 18446744073709551615);
@@ -346,8 +346,8 @@ fn rule(s: &[u8], from: usize) -> Ruled {
     let end = word_end(s, at);
     let slash = byte_from(s, at, end, 47);
     if slash < end {
-        let care = word_in(s, at, slash, words::lowest(128));
-        let value = word_in(s, next(slash), end, words::lowest(128));
+        let care = word_in(s, at, slash, bits::lowest(128));
+        let value = word_in(s, next(slash), end, bits::lowest(128));
         if is_bad(care.at) {
             return no_rule(care.at);
         }

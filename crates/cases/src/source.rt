@@ -173,7 +173,7 @@ pub fn number(s: &[u8], from: usize, most: u64) -> Taken {
 // An argument that is a header: its name, then the number.
 pub fn header(s: &[u8], from: usize, name: usize) -> Given {
     let at = word_start(s, after(s, from, name));
-    word_in(s, at, word_end(s, at), words::lowest(128))
+    word_in(s, at, word_end(s, at), bits::lowest(128))
 }
 
 // An argument that is a number: its name, then the number.

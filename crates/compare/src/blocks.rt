@@ -25,17 +25,17 @@ use crate::engine_sets::last_of;
 use crate::engine_sets::narrow;
 use crate::engine_sets::next;
 use crate::engine_sets::start as before_all;
+use bits::and;
+use bits::leading_zeros;
+use bits::lowest;
+use bits::or;
+use bits::single;
+use bits::without;
+use bits::xor;
 use words::Word;
-use words::and;
 use words::is_zero;
-use words::leading_zeros;
 use words::less;
-use words::lowest;
-use words::or;
 use words::same;
-use words::single;
-use words::without;
-use words::xor;
 
 // Whether a block is one piece, with these answers.
 enum Shape {

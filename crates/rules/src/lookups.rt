@@ -20,7 +20,7 @@ use words::Word;
 fn rule_matches(rule: Rule, header: Word) -> bool
     ensures { λ r. ⌜ r ≡ matches (ruleOf rule) (num header) ⌝ }
 {
-    words::same(words::and(header, rule.care), rule.value)
+    words::same(bits::and(header, rule.care), rule.value)
 }
 
 // Where the first matching rule stands, counted from 0.

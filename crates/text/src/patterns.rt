@@ -12,10 +12,10 @@ fn glyph(width: u32, rule: Rule, place: u32) -> u8
     ensures { λ r. ⌜ r ≡ glyphAt width (ruleOf rule) place ⌝ }
 {
     let weight = width - place;
-    if words::bit_at(rule.care, weight) == 0 {
+    if bits::bit_at(rule.care, weight) == 0 {
         return 42;
     }
-    (48 + words::bit_at(rule.value, weight)) as u8
+    (48 + bits::bit_at(rule.value, weight)) as u8
 }
 
 // Puts the pattern of a rule at the start of `out`, place 1 first, and answers how many bytes it takes: the width, or 0

@@ -19,12 +19,12 @@ use Rattle.compare.proofs.blocks.loose.Lts as lts
 use Rattle.compare.proofs.engine.read.Reads as read-reads
 use Rattle.compare.proofs.engine_sets.next.Reads as next-reads
 use Rattle.compare.proofs.engine_sets.start.Reads as start-reads
-use Rattle.words.proofs.and.Reads as and-reads
-use Rattle.words.proofs.or.Reads as or-reads
-use Rattle.words.proofs.without.Reads as without-reads
-use Rattle.words.proofs.xor.Reads as xor-reads
+use Rattle.bits.proofs.and.Reads as and-reads
+use Rattle.bits.proofs.or.Reads as or-reads
+use Rattle.bits.proofs.without.Reads as without-reads
+use Rattle.bits.proofs.xor.Reads as xor-reads
 use Rattle.words.proofs.is_zero.Reads as is-zero-reads
-use Rattle.words.proofs.lowest.Reads as lowest-reads
+use Rattle.bits.proofs.lowest.Reads as lowest-reads
 
 abbrev Inv-loop : tie.InvT-loop
 Inv-loop care value live h top n words all places₀ s₀ places s = (s .at ≤ length (wordsOf care)) × Loose (wordsOf care) (wordsOf value) live (num h) (s .at) (num places)

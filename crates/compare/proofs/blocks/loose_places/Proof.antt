@@ -9,9 +9,9 @@ use Rattle.compare.proofs.blocks.loose_places.Reads as reads
 use Rattle.compare.proofs.blocks.loose_places.Lts as lts
 use Rattle.compare.proofs.blocks.loose.Reads as loose-reads
 use Rattle.compare.proofs.engine.is_full.Reads as is-full-reads
-use Rattle.words.proofs.or.Reads as or-reads
-use Rattle.words.proofs.lowest.Reads as lowest-reads
-use Rattle.words.proofs.single.Reads as single-reads
+use Rattle.bits.proofs.or.Reads as or-reads
+use Rattle.bits.proofs.lowest.Reads as lowest-reads
+use Rattle.bits.proofs.single.Reads as single-reads
 
 lowest-requires : tie.Need-lowest-requires
 lowest-requires c κs = search needs

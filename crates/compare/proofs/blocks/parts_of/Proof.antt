@@ -15,9 +15,9 @@ use Rattle.compare.proofs.blocks.parts_of.Reads as reads
 use Rattle.compare.proofs.blocks.parts_of.Lts as lts
 use Rattle.compare.proofs.engine.above.Reads as above-reads
 use Rattle.compare.proofs.engine.after.Reads as after-reads
-use Rattle.words.proofs.and.Reads as and-reads
-use Rattle.words.proofs.lowest.Reads as lowest-reads
-use Rattle.words.proofs.leading_zeros.Reads as leading-zeros-reads
+use Rattle.bits.proofs.and.Reads as and-reads
+use Rattle.bits.proofs.lowest.Reads as lowest-reads
+use Rattle.bits.proofs.leading_zeros.Reads as leading-zeros-reads
 
 lowest-requires : tie.Need-lowest-requires
 lowest-requires c κs = search needs

@@ -6,8 +6,8 @@ use Rattle.compare.proofs.engine_sets.last_of.Statement.{statement}
 use Rattle.compare.proofs.engine_sets.last_of.Tie as tie
 use Rattle.compare.proofs.engine_sets.last_of.Reads as reads
 use Rattle.compare.proofs.engine_sets.last_of.Lts as lts
-use Rattle.words.proofs.flip.Reads as flip-reads
-use Rattle.words.proofs.or.Reads as or-reads
+use Rattle.bits.proofs.flip.Reads as flip-reads
+use Rattle.bits.proofs.or.Reads as or-reads
 
 flip-requires : tie.Need-flip-requires
 flip-requires c κs = search needs

@@ -6,7 +6,7 @@ use Rattle.text.proofs.patterns.glyph.Statement.{statement}
 use Rattle.text.proofs.patterns.glyph.Tie as tie
 use Rattle.text.proofs.patterns.glyph.Reads as reads
 use Rattle.text.proofs.patterns.glyph.Lts as lts
-use Rattle.words.proofs.bit_at.Reads as bit-at-reads
+use Rattle.bits.proofs.bit_at.Reads as bit-at-reads
 
 sub-weight : tie.Need-sub-weight
 sub-weight c = search needs
