@@ -7,13 +7,11 @@ use Prim.Native.Nat.{ℕ, _+_, _^_, _≤_, _<_}
 use native.Mathlib.Omega.{arith}
 use native.Mathlib.Decide.{decLt}
 use lib.Dec.{eqb}
-use lib.ListN.{length}
 use borrow.Author.Tests.{eqb-true, lt-ltb, le-ltb}
-use Rattle.rules.specs.Rule.{Rule}
 use Rattle.rules.specs.Rules.{noMatch, answer}
 use Rattle.rules.specs.Slices.{rulesOf}
 use Rattle.rules.specs.Replies.{Gives, Refuses, passed}
-use Rattle.rules.specs.Checks.{widthCheck, lengthsCheck, sizeCheck, ruleCheck, rulesCheck, listCheck, headerCheck}
+use Rattle.rules.specs.Checks.{headerCheck}
 use Rattle.rules.specs.Calls.{checkList, givesIf, answered, lookedUp}
 use Rattle.rules.proofs.ReplyLaws.{then-next, then-second, one-value}
 use Rattle.rules.proofs.CheckLaws.{list-sound, sound-list, header-yes, header-no}

@@ -1,6 +1,6 @@
 -- The starred examples of document 01 ("Tried by hand"): one table, and one proof of all its rows by computing both sides.
 use Prim.Native.Nat.{ℕ, _*_}
-use mathlib.Core.Path.{_≡_, refl, ap, _∙_}
+use mathlib.Core.Path.{_≡_, refl, _∙_}
 use mathlib.Core.List.{List, [], _∷_}
 use lib.ListN.{length}
 use Rattle.words.specs.Halves.{num, halves}

@@ -1,6 +1,6 @@
 -- What the call `weave` owes its user (demand 2), read off its own promise: the list that it leaves, how long that is, that it
 -- passes a list's checks and how it answers; and that a refused call leaves every slice as it was.
-use mathlib.Core.Path.{_≡_, refl, sym, ap, _∙_}
+use mathlib.Core.Path.{_≡_, sym, ap, _∙_}
 use mathlib.Core.List.{List, [], _∷_, map}
 use Prim.Native.Nat.{ℕ, _+_, _*_, _≤_}
 use native.Mathlib.Omega.{arith}
@@ -12,10 +12,10 @@ use Rattle.rules.specs.Rule.{Rule}
 use Rattle.rules.specs.Rules.{answer}
 use Rattle.rules.specs.declared.Refusal.{Refusal}
 use Rattle.rules.specs.Slices.{rulesOf, Lent}
-use Rattle.rules.specs.Replies.{Reply, Gives, Refuses, passed, _then_, unlessRefused}
-use Rattle.rules.specs.Checks.{widthCheck, lengthsCheck, sizeCheck, ruleCheck, rulesCheck, listCheck, headerCheck, roomCheck, Sound}
+use Rattle.rules.specs.Replies.{Reply, Gives, passed, _then_, unlessRefused}
+use Rattle.rules.specs.Checks.{lengthsCheck, headerCheck, roomCheck, Sound}
 use Rattle.rules.specs.Calls.{checkList, answered, lookedUp}
-use Rattle.rules.proofs.ReplyLaws.{then-next, then-second, gives-refuses}
+use Rattle.rules.proofs.ReplyLaws.{then-next, then-second}
 use Rattle.rules.proofs.ZipLaws.{ap₃}
 use Rattle.rules.proofs.SliceLaws.{rules-length, rules-columns}
 use Rattle.rules.proofs.CheckLaws.{list-sound, list-first}

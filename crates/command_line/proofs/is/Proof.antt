@@ -2,7 +2,7 @@ use Rattle.command_line.specs.Words.{asks}
 use Rattle.words.proofs.Tests.{and-on, and-off}
 use Rattle.command_line.proofs.WordLaws.{same-decided}
 use borrow.Author.Tests.{eq-eqb, ne-eqb}
-use mathlib.Core.Path.{_≡_, refl, sym, ap, _∙_}
+use mathlib.Core.Path.{_≡_, _∙_}
 use borrow.Author.Needs.{needs}
 use Rattle.command_line.proofs.is.Statement.{statement}
 use Rattle.command_line.proofs.is.Tie as tie
