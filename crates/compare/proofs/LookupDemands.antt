@@ -19,7 +19,7 @@ use Rattle.rules.specs.Slices.{rulesOf}
 use Rattle.rules.specs.Replies.{Reply, Gives, Refuses, passed, need, _then_, unlessRefused}
 use Rattle.rules.specs.Checks.{widthCheck, listCheck, headerCheck, roomCheck}
 use Rattle.rules.specs.Calls.{checkList, answered, lookedUp}
-use Rattle.rules.proofs.ReplyLaws.{then-second, gives-refuses}
+use Rattle.rules.proofs.ReplyLaws.{then-second, gives-refuses, first-gives}
 use Rattle.rules.proofs.ZipLaws.{ap₃}
 use Rattle.rules.proofs.CheckLaws.{list-given}
 use Rattle.rules.proofs.AnswerLaws.{list-renamed, looked-answered, replies-differ}
@@ -65,11 +65,6 @@ rising-take (suc n) (r ∷ rs) R = ((λ x m. R .0 x (mem-take n rs x m)), rising
 
 -- ---- what a call that is not refused has passed
 
--- The first of two replies is no refusal where both together are none.
-then-given : (a b : Reply) {ns : List ℕ} → (a then b) ≡ Gives ns → (ms : List ℕ) × (a ≡ Gives ms)
-then-given (Gives ms) b e = (ms, refl)
-then-given (Refuses n l r) b e = absurd (gives-refuses (sym e))
-
 -- A check that is not a refusal has no values.
 need-given : (t : Bool) (n l r : ℕ) (ns : List ℕ) → need t n l r ≡ Gives ns → passed ≡ Gives ns
 need-given true n l r ns e = e
@@ -86,8 +81,8 @@ module _ (w : ℕ) (oc ov od nc nv nd : List ℕ) (start a b c d : ℕ) where
   -- Where they are passed, both lists pass the checks of a lookup.
   lists-pass : compareCheck w oc ov od nc nv nd start a b c d ≡ passed → (checkList w 1 oc ov od ≡ passed) × (checkList w 1 nc nv nd ≡ passed)
   lists-pass e =
-      let both = then-given _ _ (sym (in-order w oc ov od nc nv nd start a b c d) ∙ e) in
-      let one = then-given (checkList w 1 oc ov od) _ (both .1) in
+      let both = first-gives _ _ (sym (in-order w oc ov od nc nv nd start a b c d) ∙ e) in
+      let one = first-gives (checkList w 1 oc ov od) _ (both .1) in
       (list-given w 1 oc ov od (one .1), list-renamed w 2 1 nc nv nd (list-given w 2 nc nv nd (then-second (checkList w 1 oc ov od) _ (both .0) (both .1))))
 
 -- ---- the call
@@ -111,7 +106,7 @@ module _ (w : ℕ) (oc ov od nc nv nd : List ℕ) (start : ℕ) (first last old 
   ended : {ns : List ℕ} → endingReply (r .ending) ≡ Gives ns → compareCheck w oc ov od nc nv nd start (length first) (length last) (length old) (length new) ≡ passed
   ended e =
       check-given w oc ov od nc nv nd start (length first) (length last) (length old) (length new)
-      (then-given (compareCheck w oc ov od nc nv nd start (length first) (length last) (length old) (length new)) _ (sym (C .reply) ∙ e) .1)
+      (first-gives (compareCheck w oc ov od nc nv nd start (length first) (length last) (length old) (length new)) _ (sym (C .reply) ∙ e) .1)
 
   -- A call that finished was not refused.
   pub finished-passes : r .ending ≡ Ending.Finished → compareCheck w oc ov od nc nv nd start (length first) (length last) (length old) (length new) ≡ passed

@@ -11,7 +11,7 @@ use Rattle.words.proofs.SliceLaws.{halves-length}
 use Rattle.rules.specs.Rule.{Rule}
 use Rattle.rules.specs.Rules.{answer}
 use Rattle.rules.specs.declared.Refusal.{Refusal}
-use Rattle.rules.specs.Slices.{rulesOf, Lent}
+use Rattle.rules.specs.Slices.{rulesOf, careOf, valueOf, decisionOf, caresOf, valuesOf, decisionsOf, Lent}
 use Rattle.rules.specs.Replies.{Reply, Gives, passed, _then_, unlessRefused}
 use Rattle.rules.specs.Checks.{lengthsCheck, headerCheck, roomCheck, Sound}
 use Rattle.rules.specs.Calls.{checkList, answered, lookedUp}
@@ -37,9 +37,9 @@ abbrev pub keptDecisions : Tally → List ℕ → List ℕ
 keptDecisions t decisions = take (t .kept) decisions
 
 -- The first places of a slice that was filled.
-filled-front : (k n : ℕ) (xs old : List ℕ) → length xs ≡ k → take k (padded n xs old) ≡ xs
+padded-front : (k n : ℕ) (xs old : List ℕ) → length xs ≡ k → take k (padded n xs old) ≡ xs
 unfolding padded
-filled-front k n xs old e = take-at xs _ k e
+padded-front k n xs old e = take-at xs _ k e
 
 -- ---- weaving
 
@@ -83,7 +83,7 @@ module _ (w : ℕ) (cs vs ds ocs ovs ods ocs′ ovs′ ods′ : List ℕ) (t : T
   front : (k n : ℕ) (xs old new : List ℕ) → new ≡ unlessRefused (weaveReply w cs vs ds ocs ovs ods) (padded n xs old) old → length xs ≡ k
       → take k new ≡ xs
   front k n xs old new e f =
-      ap (take k) (e ∙ ap (λ (r : Reply). unlessRefused r (padded n xs old) old) said) ∙ filled-front k n xs old f
+      ap (take k) (e ∙ ap (λ (r : Reply). unlessRefused r (padded n xs old) old) said) ∙ padded-front k n xs old f
 
   -- a column of the woven list has an entry for each kept rule, and two where it holds words
   column-length : (f : Rule → ℕ) → length (map f woven) ≡ t .kept
@@ -93,21 +93,21 @@ module _ (w : ℕ) (cs vs ds ocs ovs ods ocs′ ovs′ ods′ : List ℕ) (t : T
   words-long f = halves-length (map f woven) ∙ ap (λ (n : ℕ). n * 2) (column-length f)
 
   -- each slice begins with its column
-  cares-front : keptWords t ocs′ ≡ halvesOf (map (λ (r : Rule). r .care) woven)
-  cares-front = front _ _ _ _ _ (D .cares) (words-long (λ (r : Rule). r .care))
+  cares-front : keptWords t ocs′ ≡ caresOf woven
+  cares-front = front _ _ _ _ _ (D .cares) (words-long careOf)
 
-  values-front : keptWords t ovs′ ≡ halvesOf (map (λ (r : Rule). r .value) woven)
-  values-front = front _ _ _ _ _ (D .values) (words-long (λ (r : Rule). r .value))
+  values-front : keptWords t ovs′ ≡ valuesOf woven
+  values-front = front _ _ _ _ _ (D .values) (words-long valueOf)
 
-  decisions-front : keptDecisions t ods′ ≡ map (λ (r : Rule). r .decision) woven
-  decisions-front = front _ _ _ _ _ (D .decisions) (column-length (λ (r : Rule). r .decision))
+  decisions-front : keptDecisions t ods′ ≡ decisionsOf woven
+  decisions-front = front _ _ _ _ _ (D .decisions) (column-length decisionOf)
 
   -- the kept places of the three slices belong together
   kept-together : Lent (keptWords t ocs′) (keptWords t ovs′) (keptDecisions t ods′)
   kept-together =
-      let c = ap length cares-front ∙ words-long (λ (r : Rule). r .care) in
-      let v = ap length values-front ∙ words-long (λ (r : Rule). r .value) in
-      let d = ap length decisions-front ∙ column-length (λ (r : Rule). r .decision) in
+      let c = ap length cares-front ∙ words-long careOf in
+      let v = ap length values-front ∙ words-long valueOf in
+      let d = ap length decisions-front ∙ column-length decisionOf in
       record { values = v ∙ sym c; decisions = ap (λ (n : ℕ). n * 2) d ∙ sym c }
 
   -- The first places of the result slices, as many as the call says it kept, hold the woven list, entry for entry.
