@@ -1,11 +1,12 @@
 -- The two formats of an image: the bytes of a word and of a rule, and the greatest width (01, Image; Refusal numbers, 1 and 11).
--- This is the one file that knows them; every other definition has the format as a parameter. A format that is not known is
--- refused before anything else is asked of it, so what these say of one does not matter.
+-- This is the one file that knows them; every other definition has the format as a parameter. A number that is no
+-- format is refused before anything else is asked of it; what these say of it is what they say of format 2.
 use Prim.Native.Nat.{ℕ, _+_, _*_}
 use mathlib.Core.Bool.{Bool, _&&_, _||_}
 use lib.Dec.{leb, eqb}
 use Rattle.rules.specs.Rules.{choose}
 use Rattle.rules.specs.Replies.{Reply, need}
+use Rattle.image.specs.declared.FormatLayout.{FormatLayout}
 
 -- There are formats 1 and 2, and byte 0 of an image says which.
 unfoldable pub known : ℕ → Bool
@@ -22,6 +23,10 @@ ruleSize f = wordBytes f + wordBytes f + 2
 -- The greatest width: a place takes one bit of each word, so it is 64 in format 1, and 128 in format 2.
 unfoldable pub mostPlaces : ℕ → ℕ
 mostPlaces f = 8 * wordBytes f
+
+-- The layout of a format: whether there is such a format, and the three numbers above.
+abbrev pub layoutOf : ℕ → FormatLayout
+layoutOf f = record { known = known f; word = wordBytes f; rule = ruleSize f; places = mostPlaces f }
 
 -- Refusal 11: the format is not known.
 unfoldable pub formatCheck : ℕ → Reply

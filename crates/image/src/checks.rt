@@ -7,10 +7,7 @@ ghost use Rattle.rules.specs.Checks.{widest, rulesCheck};
 ghost use Rattle.image.specs.Formats.{ruleSize};
 ghost use Rattle.image.specs.Images.{entryIn, entryWith, rulesIn, formatIn, countIn, widthIn, entriesOf, total};
 ghost use Rattle.image.specs.Checks.{headCheck, entryCheck, contentsCheck, bodiesCheck, imageCheck};
-use crate::formats::body_size;
-use crate::formats::is_known;
-use crate::formats::most_places;
-use crate::formats::rule_size;
+use crate::formats::layout;
 use crate::numbers::rule_in;
 use crate::numbers::u16_at;
 use crate::numbers::u32_at;
@@ -29,7 +26,8 @@ fn head(b: &[u8]) -> Verdict
     if b.len() > 65536 {
         return refused(10, 0, 0);
     }
-    if !is_known(b[0]) {
+    let layout = layout(b[0]);
+    if !layout.known {
         return refused(11, 0, 0);
     }
     if b[3] != 0 {
@@ -38,7 +36,7 @@ fn head(b: &[u8]) -> Verdict
     if b[1] < 1 {
         return refused(1, 0, 0);
     }
-    if wide(b[1]) as u32 > most_places(b[0]) {
+    if wide(b[1]) as u32 > layout.places {
         return refused(1, 0, 0);
     }
     let lists = wide(b[2]);
@@ -77,7 +75,7 @@ fn entry_verdict(
     if count > 1024 {
         return refused(3, list, 0);
     }
-    if next + body_size(format, count) > size {
+    if next + layout(format).rule * count > size {
         return refused(10, list, 0);
     }
     Verdict::Fine
@@ -102,6 +100,7 @@ fn contents(b: &[u8]) -> Verdict
     ensures { λ r. ⌜ verdictReply r ≡ contentsCheck (now (b .entry)) ⌝ }
 {
     let format = b[0];
+    let rule = layout(format).rule;
     let mut left = wide(b[2]);
     let mut next = 4 + 8 * left;
     let mut at: usize = 4;
@@ -112,7 +111,7 @@ fn contents(b: &[u8]) -> Verdict
         let Verdict::Fine = v else {
             return v;
         };
-        next += body_size(format, u16_at(b, at + 4));
+        next += rule * u16_at(b, at + 4);
         least = u16_at(b, at + 6) + 1;
         at += 8;
         list += 1;
@@ -129,6 +128,7 @@ fn rules_at(format: u8, b: &[u8], from: usize, count: usize, width: u32, list: u
     requires { ⌜ (from + ruleSize format * count ≤ length (now b)) × (count < 65536) × (1 ≤ width) × (width ≤ widest) ⌝ }
     ensures { λ r. ⌜ verdictReply r ≡ rulesCheck width list 1 (rulesIn format count (drop from (now (b .entry)))) ⌝ }
 {
+    let rule = layout(format).rule;
     let mut left = count;
     let mut at = from;
     let mut number: usize = 1;
@@ -138,7 +138,7 @@ fn rules_at(format: u8, b: &[u8], from: usize, count: usize, width: u32, list: u
             return v;
         };
         left -= 1;
-        at += rule_size(format);
+        at += rule;
         number += 1;
     }
     Verdict::Fine
@@ -151,6 +151,7 @@ fn bodies(b: &[u8]) -> Verdict
     ensures { λ r. ⌜ verdictReply r ≡ bodiesCheck (now (b .entry)) ⌝ }
 {
     let format = b[0];
+    let rule = layout(format).rule;
     let width = wide(b[1]) as u32;
     let mut left = wide(b[2]);
     let mut from = 4 + 8 * left;
@@ -162,7 +163,7 @@ fn bodies(b: &[u8]) -> Verdict
         let Verdict::Fine = v else {
             return v;
         };
-        from += body_size(format, count);
+        from += rule * count;
         at += 8;
         list += 1;
         left -= 1;

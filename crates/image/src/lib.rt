@@ -7,6 +7,7 @@ mod questions;
 mod reading;
 
 pub use checks::check;
+pub use formats::layout;
 pub use questions::body;
 pub use questions::body_refusal;
 pub use questions::count;
@@ -15,6 +16,14 @@ pub use questions::format;
 pub use questions::width;
 pub use reading::read;
 use rules::Refusal;
+
+// A format's layout: whether there is such a format, the bytes of a word and of a rule, and the greatest width.
+pub struct FormatLayout {
+    pub known: bool,
+    pub word: usize,
+    pub rule: usize,
+    pub places: u32,
+}
 
 // The answer to a call that gives one number.
 pub enum Outcome {

@@ -7,7 +7,7 @@ ghost use Rattle.words.specs.Halves.{halves};
 ghost use Rattle.rules.specs.Rule.{held};
 ghost use Rattle.image.specs.Formats.{wordBytes, ruleSize};
 ghost use Rattle.image.specs.Images.{ruleIn};
-use crate::formats::word_bytes;
+use crate::formats::layout;
 use rules::Rule;
 use words::Word;
 
@@ -58,7 +58,7 @@ pub(crate) fn rule_in(format: u8, b: &[u8], at: usize) -> Rule
     requires { ⌜ at + ruleSize format ≤ length (now b) ⌝ }
     ensures { λ r. ⌜ r ≡ held (ruleIn format (drop at (now (b .entry)))) ⌝ }
 {
-    let size = word_bytes(format);
+    let size = layout(format).word;
     let care = word_in(format, b, at);
     let value = word_in(format, b, at + size);
     let decision = u16_at(b, at + size + size) as u16;

@@ -10,7 +10,7 @@ ghost use Rattle.image.specs.Calls.{ReadOut};
 ghost use Rattle.image.specs.Replies.{outcomeReply};
 ghost use Rattle.image.specs.Filled.{Filled};
 use crate::Outcome;
-use crate::formats::rule_size;
+use crate::formats::layout;
 use crate::numbers::rule_in;
 use crate::places::find;
 use crate::questions::body_refusal;
@@ -34,12 +34,13 @@ fn fill(
         (now (care .entry)) (now (value .entry)) (now (decision .entry))
         (now (care .exit)) (now (value .exit)) (now (decision .exit)) ⌝ }
 {
+    let rule = layout(format).rule;
     let mut i: usize = 0;
     let mut at = from;
     while i < count {
         put_rule(care, value, decision, i, rule_in(format, b, at));
         i += 1;
-        at += rule_size(format);
+        at += rule;
     }
 }
 

@@ -4,13 +4,14 @@ use Prim.Native.Nat.{ℕ, _-_}
 use denote.Ref.{now}
 use native.Mathlib.Nat.{add-sub-cancel-left}
 use Rattle.image.specs.Bytes.{part}
+use Rattle.image.proofs.FormatLaws.{layout-body}
 use Rattle.image.proofs.SeekLaws.{body-none, body-found, id-facts}
 use borrow.Author.Needs.{needs}
 use Rattle.image.proofs.questions.body.Statement.{statement}
 use Rattle.image.proofs.questions.body.Tie as tie
 use Rattle.image.proofs.questions.body.Reads as reads
 use Rattle.image.proofs.questions.body.Lts as lts
-use Rattle.image.proofs.formats.body_size.Reads as body-size-reads
+use Rattle.image.proofs.formats.layout.Reads as layout-reads
 use Rattle.image.proofs.places.find.Reads as find-reads
 use Rattle.image.proofs.questions.body_refusal.Reads as body-refusal-reads
 
@@ -34,14 +35,17 @@ find-requires c κs =
     let f = id-facts _ _ _ (c .before .before .body-refusal .ensures) (c .enum-told .given .1) in
     (f .head .least, f .head .most, f .sums)
 
-shared-slice-read-body-size : tie.Need-shared-slice-read-body-size
-shared-slice-read-body-size c = omega (arith, id-facts _ _ _ (c .before .before .before .before .body-refusal .ensures) (c .before .before .enum-told .given .1) .head .least)
+shared-slice-read-layout : tie.Need-shared-slice-read-layout
+shared-slice-read-layout c = omega (arith, id-facts _ _ _ (c .before .before .before .before .body-refusal .ensures) (c .before .before .enum-told .given .1) .head .least)
 
-body-size-requires : tie.Need-body-size-requires
-body-size-requires c κs = search needs
+layout-requires : tie.Need-layout-requires
+layout-requires c κs = search needs
+
+mul-end : tie.Need-mul-end
+mul-end c = omega (arith, layout-body _ _ (c .before .before .layout .ensures) (c .before .before .before .before .find .result .count))
 
 add-end : tie.Need-add-end
-add-end c = search needs
+add-end c = omega (arith, layout-body _ _ (c .before .before .layout .ensures) (c .before .before .before .before .find .result .count))
 
 sub-result : tie.Need-sub-result
 sub-result c = search needs
@@ -50,13 +54,14 @@ part-result-start : tie.Need-part-result-start
 part-result-start c = search needs
 
 part-result-end : tie.Need-part-result-end
-part-result-end c = search needs
+part-result-end c = omega (arith, layout-body _ _ (c .before .before .layout .ensures) (c .before .before .before .before .find .result .count))
 
 returns-2 : tie.Need-returns-2
 returns-2 c =
-    let t = c .before .before .before in
+    let t = c .before .before .before .before .before in
     let b = now (t .before .before .before .before .before .args .image) in
-    ap (λ (k : ℕ). part k (t .find .result .from) b) (add-sub-cancel-left (t .find .result .from) (c .before .body-size .result) ∙ c .before .body-size .ensures .0)
+    let s = layout-body _ _ (c .before .before .before .layout .ensures) (t .find .result .count) in
+    ap (λ (k : ℕ). part k (t .find .result .from) b) (add-sub-cancel-left (t .find .result .from) _ ∙ s .0)
     ∙ body-found b _ _ (t .find .result) (t .before .before .before .body-refusal .ensures) (t .before .enum-told .given .1) (t .find .ensures .0)
 
 pub body-spec : {M : Type 1} → statement M
@@ -69,8 +74,9 @@ body-spec =
     slice-aggregate-result
     returns
     find-requires
-    shared-slice-read-body-size
-    body-size-requires
+    shared-slice-read-layout
+    layout-requires
+    mul-end
     add-end
     sub-result
     part-result-start
