@@ -1,5 +1,4 @@
 // The writer of images that carry rule lists.
-mod formats;
 mod puts;
 mod writing;
 

@@ -12,9 +12,7 @@ ghost use Rattle.image.specs.Formats.{wordBytes, ruleSize};
 ghost use Rattle.image.specs.Images.{entryWith, entryBytes, ruleBytes, rulesBytes, contentsBytes};
 ghost use Rattle.image_writer.specs.Writing.{sumOf};
 ghost use Rattle.image_writer.specs.Putting.{over, entriesGiven};
-use crate::formats::body_size;
-use crate::formats::rule_size;
-use crate::formats::word_bytes;
+use image::layout;
 use rules::Rule;
 use rules::rule_at;
 use words::Word;
@@ -66,7 +64,7 @@ fn put_rule_bytes(out: &mut [u8], at: usize, format: u8, rule: Rule)
     requires { ⌜ at + ruleSize format ≤ length (now out) ⌝ }
     ensures { λ _. ⌜ now (out .exit) ≡ over (now (out .entry)) at (ruleBytes format (ruleOf rule)) ⌝ }
 {
-    let size = word_bytes(format);
+    let size = layout(format).word;
     put_word(out, at, format, rule.care);
     put_word(out, at + size, format, rule.value);
     put16(out, at + size + size, rule.decision as usize);
@@ -99,13 +97,14 @@ pub(crate) fn put_contents(out: &mut [u8], format: u8, ids: &[u16], counts: &[u1
     ensures { λ _. ⌜ now (out .exit) ≡ over (now (out .entry)) 4
         (contentsBytes (entriesGiven format (4 + 8 * length (now (ids .entry))) (now (ids .entry)) (now (counts .entry)))) ⌝ }
 {
+    let rule = layout(format).rule;
     let mut i: usize = 0;
     let mut at: usize = 4;
     let mut next = 4 + 8 * ids.len();
     while i < ids.len() {
         let count = wide16(counts[i]);
         put_entry(out, at, next, count, wide16(ids[i]));
-        next += body_size(format, count);
+        next += rule * count;
         at += 8;
         i += 1;
     }
@@ -124,11 +123,12 @@ pub(crate) fn put_rules(
     ensures { λ _. ⌜ now (out .exit) ≡ over (now (out .entry)) from
         (rulesBytes format (rulesOf (now (care .entry)) (now (value .entry)) (now (decision .entry)))) ⌝ }
 {
+    let rule = layout(format).rule;
     let mut i: usize = 0;
     let mut at = from;
     while i < decision.len() {
         put_rule_bytes(out, at, format, rule_at(care, value, decision, i));
-        at += rule_size(format);
+        at += rule;
         i += 1;
     }
 }

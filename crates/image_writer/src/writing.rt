@@ -8,14 +8,12 @@ ghost use Rattle.rules.specs.Checks.{widest};
 ghost use Rattle.rules.specs.Slices.{Lent};
 ghost use Rattle.image.specs.Checks.{listsCheck};
 ghost use Rattle.image_writer.specs.Writing.{sumOf, given, namesCheck, givenCheck, shapeCheck, writeCheck, Written};
-use crate::formats::body_size;
-use crate::formats::is_known;
-use crate::formats::most_places;
 use crate::puts::put_contents;
 use crate::puts::put_head;
 use crate::puts::put_rules;
 use crate::puts::wide16;
 use image::Outcome;
+use image::layout;
 use rules::Verdict;
 use rules::check_list_as;
 use rules::refused;
@@ -76,13 +74,14 @@ fn shape_verdict(
     ensures { λ r. ⌜ verdictReply r ≡ shapeCheck format width (now (ids .entry)) (now (counts .entry))
         (now (care .entry)) (now (value .entry)) (now (decision .entry)) ⌝ }
 {
-    if !is_known(format) {
+    let layout = layout(format);
+    if !layout.known {
         return refused(11, 0, 0);
     }
     if width < 1 {
         return refused(1, 0, 0);
     }
-    if width > most_places(format) {
+    if width > layout.places {
         return refused(1, 0, 0);
     }
     let v = given_verdict(ids, counts, care, value, decision);
@@ -182,7 +181,7 @@ fn write_verdict(
     let Verdict::Fine = l else {
         return l;
     };
-    let size = 4 + 8 * ids.len() + body_size(format, decision.len());
+    let size = 4 + 8 * ids.len() + layout(format).rule * decision.len();
     if size > 65536 {
         return refused(10, 0, 0);
     }
@@ -216,5 +215,5 @@ pub fn write(
     put_head(out, format, width, lists);
     put_contents(out, format, ids, counts);
     put_rules(out, format, from, care, value, decision);
-    Outcome::Number(from + body_size(format, decision.len()))
+    Outcome::Number(from + layout(format).rule * decision.len())
 }

@@ -1,4 +1,5 @@
 use Rattle.image.specs.Formats.{ruleSize}
+use Rattle.image.proofs.FormatLaws.{layout-body}
 use mathlib.Core.Path.{_≡_, refl, sym, _∙_}
 use Prim.Native.Nat.{_+_, _-_, _*_, _≤_}
 use native.Mathlib.Omega.{arith}
@@ -14,18 +15,21 @@ use Rattle.image_writer.proofs.puts.put_contents.Statement.{statement}
 use Rattle.image_writer.proofs.puts.put_contents.Tie as tie
 use Rattle.image_writer.proofs.puts.put_contents.Reads as reads
 use Rattle.image_writer.proofs.puts.put_contents.Lts as lts
-use Rattle.image_writer.proofs.formats.body_size.Reads as body-size-reads
+use Rattle.image.proofs.layout.Reads as layout-reads
 use Rattle.image_writer.proofs.puts.wide16.Reads as wide16-reads
 use Rattle.image_writer.proofs.puts.put_entry.Reads as put-entry-reads
 
 abbrev Inv-loop : tie.InvT-loop
-Inv-loop out₀ format ids counts i₀ at₀ next₀ out i at next =
+Inv-loop out₀ format ids counts rule i₀ at₀ next₀ out i at next =
     (length out ≡ length out₀) × (i ≤ length ids) × (at ≡ 4 + 8 * i) × (next + ruleSize format * sumOf (drop i counts) ≤ 65536)
     × (over out at (contentsBytes (entriesGiven format next (drop i ids) (drop i counts)))
     ≡ over out₀ 4 (contentsBytes (entriesGiven format (4 + 8 * length ids) ids counts)))
 
 abbrev μ-loop : tie.MeasureT-loop
-μ-loop out₀ format ids counts i₀ at₀ next₀ out i at next = length ids - i
+μ-loop out₀ format ids counts rule i₀ at₀ next₀ out i at next = length ids - i
+
+layout-requires : tie.Need-layout-requires Inv-loop μ-loop
+layout-requires c κs = search needs
 
 mul-next : tie.Need-mul-next Inv-loop μ-loop
 mul-next c = search needs
@@ -57,14 +61,14 @@ wide16-requires-2 c κs = search needs
 put-entry-requires : tie.Need-put-entry-requires Inv-loop μ-loop
 put-entry-requires c κs = search needs
 
-body-size-requires : tie.Need-body-size-requires Inv-loop μ-loop
-body-size-requires c κs = search needs
+mul-next-2 : tie.Need-mul-next-2 Inv-loop μ-loop
+mul-next-2 c = omega (arith, layout-body _ _ (c .before .before .before .before .before .before .before .before .before .before .layout .ensures) (c .before .before .before .before .before .before .wide16 .result), c .before .before .before .before .before .before .wide16 .ensures .1)
 
 add-next-2 : tie.Need-add-next-2 Inv-loop μ-loop
 add-next-2 c =
-    let o = c .before .before .before .before .before .before .before .before .before .before .loop in
+    let o = c .before .before .before .before .before .before .before .before .before .loop in
     let a = c .before .before .before .before .before .before .before .before .before .before .before .before .before .before .args in
-    omega (arith, size-turn (a .format) (now (a .counts)) (o .i) _ (omega arith) (c .before .before .before .before .before .before .before .wide16 .ensures .0))
+    omega (arith, layout-body (a .format) _ (c .before .before .before .before .before .before .before .before .before .before .layout .ensures) (c .before .before .before .before .before .before .wide16 .result), size-turn (a .format) (now (a .counts)) (o .i) _ (omega arith) (c .before .before .before .before .before .before .wide16 .ensures .0))
 
 add-at : tie.Need-add-at Inv-loop μ-loop
 add-at c = search needs
@@ -77,16 +81,17 @@ loop-less c = search needs
 
 loop-again : tie.Need-loop-again Inv-loop μ-loop
 loop-again c =
-    let o = c .before .before .before .before .before .before .before .before .before .before .loop in
+    let o = c .before .before .before .before .before .before .before .before .before .loop in
     let a = c .before .before .before .before .before .before .before .before .before .before .before .before .before .before .args in
     let n = now (a .counts) in
     let l : length n ≡ length (now (a .ids)) = c .before .before .before .before .before .before .before .before .before .before .before .before .before .before .pre .0 in
-    let s = size-turn (a .format) n (o .i) _ (omega arith) (c .before .before .before .before .before .before .before .wide16 .ensures .0) in (
-      c .before .before .before .put-entry .kept .0 ∙ o .inv .0,
+    let s = size-turn (a .format) n (o .i) _ (omega arith) (c .before .before .before .before .before .before .wide16 .ensures .0) in
+    let z = layout-body (a .format) _ (c .before .before .before .before .before .before .before .before .before .before .layout .ensures) (c .before .before .before .before .before .before .wide16 .result) in (
+      c .before .before .put-entry .kept .0 ∙ o .inv .0,
       omega arith,
       omega arith,
-      omega (arith, s, c .body-size .ensures .0),
-      sym (entries-put (a .format) (o .out) _ (now (a .ids)) n (o .i) (o .at) (o .next) _ _ _ (omega arith) l (omega arith) (c .before .before .before .before .before .before .before .wide16 .ensures .0) (c .before .before .before .before .wide162 .ensures .0) (c .before .before .before .put-entry .ensures) (c .body-size .ensures .0)) ∙ o .inv .4,
+      omega (arith, s, z),
+      sym (entries-put (a .format) (o .out) _ (now (a .ids)) n (o .i) (o .at) (o .next) _ _ _ (omega arith) l (omega arith) (c .before .before .before .before .before .before .wide16 .ensures .0) (c .before .before .before .wide162 .ensures .0) (c .before .before .put-entry .ensures) (z .0)) ∙ o .inv .4,
     )
 
 same-length : tie.Need-same-length Inv-loop μ-loop
@@ -103,6 +108,7 @@ put-contents-spec =
     (tie.spec
     Inv-loop
     μ-loop
+    layout-requires
     mul-next
     add-next
     loop-holds
@@ -113,7 +119,7 @@ put-contents-spec =
     shared-slice-read-wide16-2
     wide16-requires-2
     put-entry-requires
-    body-size-requires
+    mul-next-2
     add-next-2
     add-at
     add-i

@@ -1,3 +1,6 @@
+use Rattle.image.proofs.FormatLaws.{layout-body}
+use lib.ListN.{length}
+use denote.Ref.{now}
 use Prim.Native.Nat.{_-_}
 use native.Mathlib.Omega.{arith}
 use Rattle.image_writer.proofs.GivenLaws.{shape-narrow}
@@ -7,7 +10,7 @@ use Rattle.image_writer.proofs.writing.write.Statement.{statement}
 use Rattle.image_writer.proofs.writing.write.Tie as tie
 use Rattle.image_writer.proofs.writing.write.Reads as reads
 use Rattle.image_writer.proofs.writing.write.Lts as lts
-use Rattle.image_writer.proofs.formats.body_size.Reads as body-size-reads
+use Rattle.image.proofs.layout.Reads as layout-reads
 use Rattle.image_writer.proofs.puts.put_contents.Reads as put-contents-reads
 use Rattle.image_writer.proofs.puts.put_head.Reads as put-head-reads
 use Rattle.image_writer.proofs.puts.put_rules.Reads as put-rules-reads
@@ -50,19 +53,26 @@ put-rules-requires c κs =
     let f = wrote _ _ _ _ _ _ _ _ _ (c .before .before .before .before .before .before .before .before .before .before .before .write-verdict .ensures) (c .before .before .before .before .before .before .before .before .before .enum-told .given .1) in
     (omega (arith, f .fits, c .before .before .before .before .before .before .before .put-head .kept .0, c .before .before .before .put-contents .kept .0), f .shape .lent)
 
-body-size-requires : tie.Need-body-size-requires
-body-size-requires c κs = rules-few _ _ _ _ _ _ _ _ (wrote _ _ _ _ _ _ _ _ _ (c .before .before .before .before .before .before .before .before .before .before .before .before .before .before .write-verdict .ensures) (c .before .before .before .before .before .before .before .before .before .before .before .before .enum-told .given .1))
+layout-requires : tie.Need-layout-requires
+layout-requires c κs = search needs
 
-add-t22 : tie.Need-add-t22
-add-t22 c =
-    let f = wrote _ _ _ _ _ _ _ _ _ (c .before .before .before .before .before .before .before .before .before .before .before .before .before .before .before .write-verdict .ensures) (c .before .before .before .before .before .before .before .before .before .before .before .before .before .enum-told .given .1) in
-    omega (arith, f .shape .few, f .small, f .fits)
+mul-t22 : tie.Need-mul-t22
+mul-t22 c =
+    let f = wrote _ _ _ _ _ _ _ _ _ (c .before .before .before .before .before .before .before .before .before .before .before .before .before .before .before .before .write-verdict .ensures) (c .before .before .before .before .before .before .before .before .before .before .before .before .before .before .enum-told .given .1) in
+    let z = layout-body _ _ (c .before .layout .ensures) (length (now (c .before .before .before .before .before .before .before .before .before .before .before .before .before .before .before .before .before .before .before .before .before .before .before .args .decision))) in
+    omega (arith, rules-few _ _ _ _ _ _ _ _ f, z)
+
+add-t23 : tie.Need-add-t23
+add-t23 c =
+    let f = wrote _ _ _ _ _ _ _ _ _ (c .before .before .before .before .before .before .before .before .before .before .before .before .before .before .before .before .write-verdict .ensures) (c .before .before .before .before .before .before .before .before .before .before .before .before .before .before .enum-told .given .1) in
+    let z = layout-body _ _ (c .before .layout .ensures) (length (now (c .before .before .before .before .before .before .before .before .before .before .before .before .before .before .before .before .before .before .before .before .before .before .before .args .decision))) in
+    omega (arith, f .small, z)
 
 same-length : tie.Need-same-length
 same-length c = search needs
 
 returns-2 : tie.Need-returns-2
-returns-2 c = written _ _ _ _ _ _ _ _ _ (c .before .before .before .before .before .before .before .before .before .before .before .before .before .before .before .write-verdict .ensures) (c .before .before .before .before .before .before .before .before .before .before .before .before .before .enum-told .given .1) _ (c .body-size .ensures .0) _ _ _ (c .before .before .before .before .before .before .before .before .before .before .before .put-head .ensures) (c .before .before .before .before .before .before .before .put-contents .ensures) (c .before .before .before .put-rules .ensures)
+returns-2 c = written _ _ _ _ _ _ _ _ _ (c .before .before .before .before .before .before .before .before .before .before .before .before .before .before .before .before .write-verdict .ensures) (c .before .before .before .before .before .before .before .before .before .before .before .before .before .before .enum-told .given .1) _ (layout-body _ _ (c .before .layout .ensures) _ .0) _ _ _ (c .before .before .before .before .before .before .before .before .before .before .before .before .put-head .ensures) (c .before .before .before .before .before .before .before .before .put-contents .ensures) (c .before .before .before .before .put-rules .ensures)
 
 pub write-spec : {M : Type 1} → statement M
 write-spec =
@@ -77,7 +87,8 @@ write-spec =
     put-head-requires
     put-contents-requires
     put-rules-requires
-    body-size-requires
-    add-t22
+    layout-requires
+    mul-t22
+    add-t23
     same-length
     returns-2)

@@ -1,3 +1,6 @@
+use Rattle.image.proofs.FormatLaws.{layout-body}
+use lib.ListN.{length}
+use denote.Ref.{now}
 use mathlib.Core.Path.{ap, sym, _∙_}
 use Prim.Native.Nat.{_-_}
 use native.Mathlib.Omega.{arith}
@@ -9,7 +12,7 @@ use Rattle.image_writer.proofs.writing.write_verdict.Tie as tie
 use Rattle.image_writer.proofs.writing.write_verdict.Reads as reads
 use Rattle.image_writer.proofs.writing.write_verdict.Lts as lts
 use Rattle.rules.proofs.refused.Reads as refused-reads
-use Rattle.image_writer.proofs.formats.body_size.Reads as body-size-reads
+use Rattle.image.proofs.layout.Reads as layout-reads
 use Rattle.image_writer.proofs.writing.lists_verdict.Reads as lists-verdict-reads
 use Rattle.image_writer.proofs.writing.names_verdict.Reads as names-verdict-reads
 use Rattle.image_writer.proofs.writing.shape_verdict.Reads as shape-verdict-reads
@@ -64,32 +67,43 @@ add-size c =
     let n = names-sum 1 0 _ _ (s .paired) (sym (c .before .before .before .before .before .names-verdict .ensures) ∙ ap verdictReply (c .before .before .before .enum-told3 .given .1)) in
     omega (arith, s .few, s .sums, n)
 
-body-size-requires : tie.Need-body-size-requires
-body-size-requires c κs =
-    let s = shape-facts _ _ _ _ _ _ _ (sym (c .before .before .before .before .before .before .before .before .shape-verdict .ensures) ∙ ap verdictReply (c .before .before .before .before .before .before .enum-told .given .1)) in
-    let n = names-sum 1 0 _ _ (s .paired) (sym (c .before .before .before .before .before .names-verdict .ensures) ∙ ap verdictReply (c .before .before .before .enum-told3 .given .1)) in
-    omega (arith, s .few, s .sums, n)
+layout-requires : tie.Need-layout-requires
+layout-requires c κs = search needs
+
+mul-size-2 : tie.Need-mul-size-2
+mul-size-2 c =
+    let s = shape-facts _ _ _ _ _ _ _ (sym (c .before .before .before .before .before .before .before .before .before .before .shape-verdict .ensures) ∙ ap verdictReply (c .before .before .before .before .before .before .before .before .enum-told .given .1)) in
+    let n = names-sum 1 0 _ _ (s .paired) (sym (c .before .before .before .before .before .before .before .names-verdict .ensures) ∙ ap verdictReply (c .before .before .before .before .before .enum-told3 .given .1)) in
+    let z = layout-body _ _ (c .before .layout .ensures) (length (now (c .before .before .before .before .before .before .before .before .before .before .before .before .before .before .before .before .args .decision))) in
+    omega (arith, s .few, s .sums, n, z)
 
 add-size-2 : tie.Need-add-size-2
 add-size-2 c =
-    let s = shape-facts _ _ _ _ _ _ _ (sym (c .before .before .before .before .before .before .before .before .before .shape-verdict .ensures) ∙ ap verdictReply (c .before .before .before .before .before .before .before .enum-told .given .1)) in
-    let n = names-sum 1 0 _ _ (s .paired) (sym (c .before .before .before .before .before .before .names-verdict .ensures) ∙ ap verdictReply (c .before .before .before .before .enum-told3 .given .1)) in
-    omega (arith, s .few, s .sums, n)
+    let s = shape-facts _ _ _ _ _ _ _ (sym (c .before .before .before .before .before .before .before .before .before .before .shape-verdict .ensures) ∙ ap verdictReply (c .before .before .before .before .before .before .before .before .enum-told .given .1)) in
+    let n = names-sum 1 0 _ _ (s .paired) (sym (c .before .before .before .before .before .before .before .names-verdict .ensures) ∙ ap verdictReply (c .before .before .before .before .before .enum-told3 .given .1)) in
+    let z = layout-body _ _ (c .before .layout .ensures) (length (now (c .before .before .before .before .before .before .before .before .before .before .before .before .before .before .before .before .args .decision))) in
+    omega (arith, s .few, s .sums, n, z)
 
 refused-requires : tie.Need-refused-requires
 refused-requires c κs = search needs
 
 returns-4 : tie.Need-returns-4
-returns-4 c = c .refused .ensures ∙ write-ten _ _ _ _ _ _ _ _ _ (c .before .before .before .before .before .before .before .before .before .before .before .shape-verdict .ensures) (c .before .before .before .before .before .before .before .before .before .enum-told .given .1) _ (c .before .before .before .before .before .before .before .before .names-verdict .ensures) (c .before .before .before .before .before .before .enum-told3 .given .1) _ (c .before .before .before .before .before .lists-verdict .ensures) (c .before .before .before .enum-told5 .given .1) (omega arith)
+returns-4 c =
+    let z = layout-body _ _ (c .before .before .before .layout .ensures) (length (now (c .before .before .before .before .before .before .before .before .before .before .before .before .before .before .before .before .before .before .args .decision))) in
+    c .refused .ensures ∙ write-ten _ _ _ _ _ _ _ _ _ (c .before .before .before .before .before .before .before .before .before .before .before .before .shape-verdict .ensures) (c .before .before .before .before .before .before .before .before .before .before .enum-told .given .1) _ (c .before .before .before .before .before .before .before .before .before .names-verdict .ensures) (c .before .before .before .before .before .before .before .enum-told3 .given .1) _ (c .before .before .before .before .before .before .lists-verdict .ensures) (c .before .before .before .before .enum-told5 .given .1) (omega arith)
 
 refused-requires-2 : tie.Need-refused-requires-2
 refused-requires-2 c κs = search needs
 
 returns-5 : tie.Need-returns-5
-returns-5 c = c .refused2 .ensures ∙ write-seven _ _ _ _ _ _ _ _ _ (c .before .before .before .before .before .before .before .before .before .before .before .before .shape-verdict .ensures) (c .before .before .before .before .before .before .before .before .before .before .enum-told .given .1) _ (c .before .before .before .before .before .before .before .before .before .names-verdict .ensures) (c .before .before .before .before .before .before .before .enum-told3 .given .1) _ (c .before .before .before .before .before .before .lists-verdict .ensures) (c .before .before .before .before .enum-told5 .given .1) (omega arith) (omega arith)
+returns-5 c =
+    let z = layout-body _ _ (c .before .before .before .before .layout .ensures) (length (now (c .before .before .before .before .before .before .before .before .before .before .before .before .before .before .before .before .before .before .before .args .decision))) in
+    c .refused2 .ensures ∙ write-seven _ _ _ _ _ _ _ _ _ (c .before .before .before .before .before .before .before .before .before .before .before .before .before .shape-verdict .ensures) (c .before .before .before .before .before .before .before .before .before .before .before .enum-told .given .1) _ (c .before .before .before .before .before .before .before .before .before .before .names-verdict .ensures) (c .before .before .before .before .before .before .before .before .enum-told3 .given .1) _ (c .before .before .before .before .before .before .before .lists-verdict .ensures) (c .before .before .before .before .before .enum-told5 .given .1) (omega arith) (omega arith)
 
 returns-6 : tie.Need-returns-6
-returns-6 c = write-fine _ _ _ _ _ _ _ _ _ (c .before .before .before .before .before .before .before .before .before .before .before .shape-verdict .ensures) (c .before .before .before .before .before .before .before .before .before .enum-told .given .1) _ (c .before .before .before .before .before .before .before .before .names-verdict .ensures) (c .before .before .before .before .before .before .enum-told3 .given .1) _ (c .before .before .before .before .before .lists-verdict .ensures) (c .before .before .before .enum-told5 .given .1) (omega arith) (omega arith)
+returns-6 c =
+    let z = layout-body _ _ (c .before .before .before .layout .ensures) (length (now (c .before .before .before .before .before .before .before .before .before .before .before .before .before .before .before .before .before .before .args .decision))) in
+    write-fine _ _ _ _ _ _ _ _ _ (c .before .before .before .before .before .before .before .before .before .before .before .before .shape-verdict .ensures) (c .before .before .before .before .before .before .before .before .before .before .enum-told .given .1) _ (c .before .before .before .before .before .before .before .before .before .names-verdict .ensures) (c .before .before .before .before .before .before .before .enum-told3 .given .1) _ (c .before .before .before .before .before .before .lists-verdict .ensures) (c .before .before .before .before .enum-told5 .given .1) (omega arith) (omega arith)
 
 pub write-verdict-spec : {M : Type 1} → statement M
 write-verdict-spec =
@@ -109,7 +123,8 @@ write-verdict-spec =
     returns-3
     mul-size
     add-size
-    body-size-requires
+    layout-requires
+    mul-size-2
     add-size-2
     refused-requires
     returns-4
