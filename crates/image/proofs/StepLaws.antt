@@ -6,7 +6,7 @@ use native.Mathlib.Nat.{not-suc-le-zero}
 use native.Mathlib.Omega.{arith}
 use lib.ListN.{length, drop}
 use lib.Seq.{drop-drop}
-use borrow.Author.Tests.{eq-eqb, ne-eqb, le-leb, eqb-true}
+use borrow.Author.Tests.{eq-eqb, ne-eqb, eqb-true}
 use lib.Dec.{eqb}
 use Rattle.rules.specs.Rule.{Rule}
 use Rattle.rules.specs.declared.Refusal.{Refusal}
@@ -14,7 +14,6 @@ use Rattle.rules.specs.declared.Verdict.{Verdict}
 use Rattle.rules.specs.Replies.{Refuses, passed, _then_, verdictReply}
 use Rattle.rules.specs.Checks.{widest, ruleCheck, rulesCheck}
 use Rattle.rules.specs.Calls.{checkRule}
-use Rattle.words.proofs.Tests.{true-and}
 use Rattle.rules.proofs.ReplyLaws.{verdict-stop, fine-next, need-passed, then-next, then-second}
 use Rattle.rules.proofs.CheckLaws.{width-inside}
 use Rattle.image.specs.Bytes.{numberIn}

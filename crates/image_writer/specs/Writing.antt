@@ -1,7 +1,7 @@
 -- What the writer replies, and what the lent bytes hold afterwards (01, Refusal numbers: the writer's order).
 use mathlib.Core.Path.{_≡_}
 use Prim.Native.Nat.{ℕ, _+_, _*_}
-use mathlib.Core.List.{List, [], _∷_, _++_}
+use mathlib.Core.List.{List, [], _∷_}
 use lib.ListN.{length, take, drop}
 use lib.Dec.{leb, eqb}
 use Rattle.rules.specs.Rule.{Rule}
