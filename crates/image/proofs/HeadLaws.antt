@@ -1,5 +1,5 @@
 -- The head's and an entry's checks as the code's tests come to them.
-use mathlib.Core.Path.{_≡_}
+use mathlib.Core.Path.{_≡_, sym, _∙_}
 use mathlib.Core.List.{List, []}
 use Prim.Native.Nat.{ℕ, _+_, _*_, _≤_, _<_}
 use native.Mathlib.Omega.{arith}
@@ -7,81 +7,99 @@ use lib.ListN.{length, getD}
 use mathlib.Core.Bool.{true, false, _&&_}
 use lib.Dec.{leb, eqb}
 use borrow.Author.Tests.{le-leb, lt-leb, eq-eqb, ne-eqb, leb-true, eqb-true}
-use Rattle.rules.specs.Replies.{Refuses, passed, need}
+use Rattle.rules.specs.Replies.{Refuses, passed, need, _then_}
 use Rattle.rules.specs.Checks.{widest, sizeCheck}
 use Rattle.rules.proofs.ReplyLaws.{need-then, need-passed, then-second}
 use Rattle.words.proofs.Tests.{and-true}
 use Rattle.image.specs.Formats.{known, ruleSize, mostPlaces, formatCheck, rangeCheck}
-use Rattle.image.specs.Images.{Entry, entryWith, formatIn, widthIn, countIn}
+use Rattle.image.specs.Images.{Entry, formatIn, widthIn, countIn}
 use Rattle.image.specs.Checks.{headCheck, entryCheck}
 use Rattle.image.proofs.FormatLaws.{places-most}
+
+-- what the first three tests of a head leave: the size is right and the format is known
+pub record Opened (b : List ℕ) : Type 0 where
+  pub least : 4 ≤ length b
+  pub most : length b ≤ 65536
+  pub zeroth : known (formatIn b) ≡ true
+
+-- what the first six leave: byte 3 is 0 and the width is one that the format has, besides
+pub record Ranged (b : List ℕ) : Type 0 where
+  pub opened : Opened b
+  pub third : getD b 3 0 ≡ 0
+  pub wide : 1 ≤ widthIn b
+  pub narrow : widthIn b ≤ mostPlaces (formatIn b)
 
 module _ (b : List ℕ) where
   pub head-1 : length b < 4 → Refuses 10 0 0 ≡ headCheck b
   unfolding headCheck formatCheck rangeCheck
-  head-1 h1 = simp (le-leb, lt-leb, eq-eqb, ne-eqb)
+  head-1 h1 = simp lt-leb
 
   pub head-2 : 4 ≤ length b → 65536 < length b → Refuses 10 0 0 ≡ headCheck b
   unfolding headCheck formatCheck rangeCheck
-  head-2 h1 h2 = simp (le-leb, lt-leb, eq-eqb, ne-eqb)
+  head-2 h1 h2 = simp (le-leb, lt-leb)
 
   pub head-3 : 4 ≤ length b → length b ≤ 65536 → known (formatIn b) ≡ false → Refuses 11 0 0 ≡ headCheck b
   unfolding headCheck formatCheck rangeCheck
-  head-3 h1 h2 h3 = simp (le-leb, lt-leb, eq-eqb, ne-eqb, h3)
+  head-3 h1 h2 h3 = simp (le-leb, h3)
 
-  pub head-4 : 4 ≤ length b → length b ≤ 65536 → known (formatIn b) ≡ true → (getD b 3 0 ≡ 0 → ⊥) → Refuses 11 0 0 ≡ headCheck b
-  unfolding headCheck formatCheck rangeCheck
-  head-4 h1 h2 h3 h4 = simp (le-leb, lt-leb, eq-eqb, ne-eqb, h3)
+  module _ (o : Opened b) where
+    pub head-4 : (getD b 3 0 ≡ 0 → ⊥) → Refuses 11 0 0 ≡ headCheck b
+    unfolding headCheck formatCheck rangeCheck
+    head-4 h4 = let h1 = o .least in let h2 = o .most in simp (le-leb, ne-eqb, o .zeroth)
 
-  pub head-5 : 4 ≤ length b → length b ≤ 65536 → known (formatIn b) ≡ true → getD b 3 0 ≡ 0 → widthIn b < 1 → Refuses 1 0 0 ≡ headCheck b
-  unfolding headCheck formatCheck rangeCheck
-  head-5 h1 h2 h3 h4 h5 = simp (le-leb, lt-leb, eq-eqb, ne-eqb, h3)
+    pub head-5 : getD b 3 0 ≡ 0 → widthIn b < 1 → Refuses 1 0 0 ≡ headCheck b
+    unfolding headCheck formatCheck rangeCheck
+    head-5 h4 h5 = let h1 = o .least in let h2 = o .most in simp (le-leb, lt-leb, eq-eqb, o .zeroth)
 
-  pub head-6 : 4 ≤ length b → length b ≤ 65536 → known (formatIn b) ≡ true → getD b 3 0 ≡ 0 → 1 ≤ widthIn b → mostPlaces (formatIn b) < widthIn b → Refuses 1 0 0 ≡ headCheck b
-  unfolding headCheck formatCheck rangeCheck
-  head-6 h1 h2 h3 h4 h5 h6 = simp (le-leb, lt-leb, eq-eqb, ne-eqb, h3)
+    pub head-6 : getD b 3 0 ≡ 0 → 1 ≤ widthIn b → mostPlaces (formatIn b) < widthIn b → Refuses 1 0 0 ≡ headCheck b
+    unfolding headCheck formatCheck rangeCheck
+    head-6 h4 h5 h6 = let h1 = o .least in let h2 = o .most in simp (le-leb, lt-leb, eq-eqb, o .zeroth)
 
-  pub head-7 : 4 ≤ length b → length b ≤ 65536 → known (formatIn b) ≡ true → getD b 3 0 ≡ 0 → 1 ≤ widthIn b → widthIn b ≤ mostPlaces (formatIn b) → countIn b < 1 → Refuses 12 0 0 ≡ headCheck b
-  unfolding headCheck formatCheck rangeCheck
-  head-7 h1 h2 h3 h4 h5 h6 h7 = simp (le-leb, lt-leb, eq-eqb, ne-eqb, h3)
+  module _ (r : Ranged b) where
+    -- the checks that are left
+    head-rest : headCheck b
+        ≡ (need (leb 1 (countIn b)) 12 0 0 then need (leb (countIn b) 16) 12 0 0 then need (leb (4 + 8 * countIn b) (length b)) 12 0 0)
+    unfolding headCheck formatCheck rangeCheck
+    head-rest =
+        let h1 = r .opened .least in
+        let h2 = r .opened .most in
+        let h4 = r .third in
+        let h5 = r .wide in
+        let h6 = r .narrow in
+        simp (le-leb, eq-eqb, r .opened .zeroth)
 
-  pub head-8 : 4 ≤ length b → length b ≤ 65536 → known (formatIn b) ≡ true → getD b 3 0 ≡ 0 → 1 ≤ widthIn b → widthIn b ≤ mostPlaces (formatIn b) → 1 ≤ countIn b → 16 < countIn b → Refuses 12 0 0 ≡ headCheck b
-  unfolding headCheck formatCheck rangeCheck
-  head-8 h1 h2 h3 h4 h5 h6 h7 h8 = simp (le-leb, lt-leb, eq-eqb, ne-eqb, h3)
+    pub head-7 : countIn b < 1 → Refuses 12 0 0 ≡ headCheck b
+    head-7 h7 = sym (head-rest ∙ simp lt-leb)
 
-  pub head-9 : 4 ≤ length b → length b ≤ 65536 → known (formatIn b) ≡ true → getD b 3 0 ≡ 0 → 1 ≤ widthIn b → widthIn b ≤ mostPlaces (formatIn b) → 1 ≤ countIn b → countIn b ≤ 16 → length b < 4 + 8 * countIn b → Refuses 12 0 0 ≡ headCheck b
-  unfolding headCheck formatCheck rangeCheck
-  head-9 h1 h2 h3 h4 h5 h6 h7 h8 h9 = simp (le-leb, lt-leb, eq-eqb, ne-eqb, h3)
+    pub head-8 : 1 ≤ countIn b → 16 < countIn b → Refuses 12 0 0 ≡ headCheck b
+    head-8 h7 h8 = sym (head-rest ∙ simp (le-leb, lt-leb))
 
-  pub head-fine : 4 ≤ length b → length b ≤ 65536 → known (formatIn b) ≡ true → getD b 3 0 ≡ 0 → 1 ≤ widthIn b → widthIn b ≤ mostPlaces (formatIn b) → 1 ≤ countIn b → countIn b ≤ 16 → 4 + 8 * countIn b ≤ length b → passed ≡ headCheck b
-  unfolding headCheck formatCheck rangeCheck
-  head-fine h1 h2 h3 h4 h5 h6 h7 h8 h9 = simp (le-leb, lt-leb, eq-eqb, ne-eqb, h3)
+    pub head-9 : 1 ≤ countIn b → countIn b ≤ 16 → length b < 4 + 8 * countIn b → Refuses 12 0 0 ≡ headCheck b
+    head-9 h7 h8 h9 = sym (head-rest ∙ simp (le-leb, lt-leb))
+
+    pub head-fine : 1 ≤ countIn b → countIn b ≤ 16 → 4 + 8 * countIn b ≤ length b → passed ≡ headCheck b
+    head-fine h7 h8 h9 = sym (head-rest ∙ simp le-leb)
 
 module _ (fmt size next least l : ℕ) (e : Entry) where
   pub entry-1 : e .id < least → Refuses 13 l 0 ≡ entryCheck fmt size next least l e
   unfolding entryCheck sizeCheck
-  entry-1 h1 = simp (le-leb, lt-leb, eq-eqb, ne-eqb)
+  entry-1 h1 = simp lt-leb
 
   pub entry-2 : least ≤ e .id → (e .offset ≡ next → ⊥) → Refuses 14 l 0 ≡ entryCheck fmt size next least l e
   unfolding entryCheck sizeCheck
-  entry-2 h1 h2 = simp (le-leb, lt-leb, eq-eqb, ne-eqb)
+  entry-2 h1 h2 = simp (le-leb, ne-eqb)
 
   pub entry-3 : least ≤ e .id → e .offset ≡ next → 1024 < e .count → Refuses 3 l 0 ≡ entryCheck fmt size next least l e
   unfolding entryCheck sizeCheck
-  entry-3 h1 h2 h3 = simp (le-leb, lt-leb, eq-eqb, ne-eqb)
+  entry-3 h1 h2 h3 = simp (le-leb, lt-leb, eq-eqb)
 
   pub entry-4 : least ≤ e .id → e .offset ≡ next → e .count ≤ 1024 → size < next + ruleSize fmt * e .count → Refuses 10 l 0 ≡ entryCheck fmt size next least l e
   unfolding entryCheck sizeCheck
-  entry-4 h1 h2 h3 h4 = simp (le-leb, lt-leb, eq-eqb, ne-eqb)
+  entry-4 h1 h2 h3 h4 = simp (le-leb, lt-leb, eq-eqb)
 
   pub entry-fine : least ≤ e .id → e .offset ≡ next → e .count ≤ 1024 → next + ruleSize fmt * e .count ≤ size → passed ≡ entryCheck fmt size next least l e
   unfolding entryCheck sizeCheck
-  entry-fine h1 h2 h3 h4 = simp (le-leb, lt-leb, eq-eqb, ne-eqb)
-
--- the same numbers, the same reply
-pub entry-same : (fmt size next least l : ℕ) {o o′ n n′ i i′ : ℕ} → o ≡ o′ → n ≡ n′ → i ≡ i′
-    → entryCheck fmt size next least l (entryWith o n i) ≡ entryCheck fmt size next least l (entryWith o′ n′ i′)
-entry-same fmt size next least l p q r = λ j. entryCheck fmt size next least l (entryWith (p j) (q j) (r j))
+  entry-fine h1 h2 h3 h4 = simp (le-leb, eq-eqb)
 
 -- what an entry that passed says
 pub record EntryFacts (fmt size next least : ℕ) (e : Entry) : Type 0 where

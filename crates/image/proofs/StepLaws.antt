@@ -18,7 +18,7 @@ use Rattle.rules.proofs.ReplyLaws.{verdict-stop, fine-next, need-passed, then-n
 use Rattle.rules.proofs.CheckLaws.{width-inside}
 use Rattle.image.specs.Bytes.{numberIn}
 use Rattle.image.specs.Formats.{ruleSize}
-use Rattle.image.specs.Images.{Entry, ruleIn, rulesIn, entryIn, entriesIn, listsIn, total, formatIn, countIn, widthIn, entriesOf, listsOf}
+use Rattle.image.specs.Images.{Entry, entryWith, ruleIn, rulesIn, entryIn, entriesIn, listsIn, total, formatIn, countIn, widthIn, entriesOf, listsOf}
 use Rattle.image.specs.Checks.{entryCheck, entriesCheck, listsCheck, contentsCheck, headCheck, bodiesCheck, imageCheck}
 use Rattle.image.proofs.NumberLaws.{num-in}
 use Rattle.image.proofs.HeadLaws.{entry-facts}
@@ -87,6 +87,12 @@ module _ (fmt size next least l n at : ℕ) (b : List ℕ) where
   pub entries-end : n ≡ 0 → next ≡ size → entriesCheck fmt size next least l (entriesIn n (drop at b)) ≡ passed
   unfolding entriesCheck entriesIn
   entries-end e h = ap (λ (k : ℕ). entriesCheck fmt size next least l (entriesIn k (drop at b))) e ∙ simp eq-eqb
+
+-- the reply to the three numbers at byte `at` is that to the entry there
+pub entry-read : (fmt size next least l at : ℕ) (b : List ℕ) (v : Verdict) (o n i : ℕ) → o ≡ numberIn 4 at b → n ≡ numberIn 2 (at + 4) b → i ≡ numberIn 2 (at + 6) b
+    → verdictReply v ≡ entryCheck fmt size next least l (entryWith o n i) → verdictReply v ≡ entryCheck fmt size next least l (entryIn (drop at b))
+entry-read fmt size next least l at b v o n i p q r e =
+    e ∙ (λ j. entryCheck fmt size next least l (entryWith (p j) ((q ∙ sym (num-in 2 at 4 b)) j) ((r ∙ sym (num-in 2 at 6 b)) j)))
 
 -- the body of an entry that passed is within the image
 pub next-fits : (fmt size next least l at : ℕ) (b : List ℕ) (v : Verdict) (count : ℕ) → verdictReply v ≡ entryCheck fmt size next least l (entryIn (drop at b)) → v ≡ Verdict.Fine

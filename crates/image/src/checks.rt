@@ -5,7 +5,7 @@ ghost use lib.ListN.{length, drop};
 ghost use Rattle.rules.specs.Replies.{verdictReply};
 ghost use Rattle.rules.specs.Checks.{widest, rulesCheck};
 ghost use Rattle.image.specs.Formats.{ruleSize};
-ghost use Rattle.image.specs.Images.{entryIn, entryWith, rulesIn, formatIn, countIn, widthIn, entriesOf, total};
+ghost use Rattle.image.specs.Images.{entryWith, rulesIn, formatIn, countIn, widthIn, entriesOf, total};
 ghost use Rattle.image.specs.Checks.{headCheck, entryCheck, contentsCheck, bodiesCheck, imageCheck};
 use crate::formats::layout;
 use crate::numbers::rule_in;
@@ -33,10 +33,11 @@ fn head(b: &[u8]) -> Verdict
     if b[3] != 0 {
         return refused(11, 0, 0);
     }
-    if b[1] < 1 {
+    let width = wide(b[1]);
+    if width < 1 {
         return refused(1, 0, 0);
     }
-    if wide(b[1]) as u32 > layout.places {
+    if width as u32 > layout.places {
         return refused(1, 0, 0);
     }
     let lists = wide(b[2]);
@@ -81,18 +82,6 @@ fn entry_verdict(
     Verdict::Fine
 }
 
-// The contents entry at byte `at`.
-fn entry_at(format: u8, b: &[u8], at: usize, next: usize, least: usize, list: usize) -> Verdict
-    requires { ⌜ (at + 8 ≤ length (now b)) × (next ≤ 65536) ⌝ }
-    ensures { λ r. ⌜ verdictReply r
-        ≡ entryCheck format (length (now (b .entry))) next least list (entryIn (drop at (now (b .entry)))) ⌝ }
-{
-    let offset = u32_at(b, at);
-    let count = u16_at(b, at + 4);
-    let id = u16_at(b, at + 6);
-    entry_verdict(format, b.len(), next, least, list, offset, count, id)
-}
-
 // The contents of an image whose head is right. Bodies are counted from the end of the one before and not from the
 // offsets, so that no offset is used before it is known to be right.
 fn contents(b: &[u8]) -> Verdict
@@ -107,12 +96,15 @@ fn contents(b: &[u8]) -> Verdict
     let mut least: usize = 0;
     let mut list: usize = 1;
     while 0 < left {
-        let v = entry_at(format, b, at, next, least, list);
+        let offset = u32_at(b, at);
+        let count = u16_at(b, at + 4);
+        let id = u16_at(b, at + 6);
+        let v = entry_verdict(format, b.len(), next, least, list, offset, count, id);
         let Verdict::Fine = v else {
             return v;
         };
-        next += rule * u16_at(b, at + 4);
-        least = u16_at(b, at + 6) + 1;
+        next += rule * count;
+        least = id + 1;
         at += 8;
         list += 1;
         left -= 1;

@@ -197,8 +197,14 @@ module _ (fmt w : ℕ) (ls : List Named) (v : Carried fmt w ls) where
   head-ok : passed ≡ headCheck (bytesOf fmt w ls)
   unfolding bytesOf
   head-ok =
-      head-fine (bytesOf fmt w ls) (omega (arith, length-bytesOf)) (omega (arith, length-bytesOf, v .size)) (v .format) refl (v .low) (v .high) (v .some) (v .few)
-      (omega (arith, length-bytesOf))
+      head-fine (bytesOf fmt w ls)
+      (record {
+        opened = record { least = omega (arith, length-bytesOf); most = omega (arith, length-bytesOf, v .size); zeroth = v .format };
+        third = refl;
+        wide = v .low;
+        narrow = v .high;
+      })
+      (v .some) (v .few) (omega (arith, length-bytesOf))
 
   contents-ok : contentsCheck (bytesOf fmt w ls) ≡ passed
   unfolding contentsCheck bytesOf
