@@ -10,15 +10,16 @@ use lib.Seq.{drop-drop, take-add, take-all}
 use Rattle.rules.specs.Lists.{All}
 use Rattle.rules.specs.Replies.{passed}
 use Rattle.rules.proofs.ReplyLaws.{then-second}
-use Rattle.image.specs.Bytes.{le, numberIn, part, bytes}
-use Rattle.image.specs.Formats.{wordBytes, ruleSize}
-use Rattle.image.specs.Images.{Named, Entry, entryWith, ruleIn, rulesIn, entryIn, entriesIn, listsIn, total, formatIn, countIn, widthIn, entriesOf, listsOf, ruleBytes, rulesBytes, bodiesBytes, entryBytes, entriesFor, contentsBytes, bytesOf}
-use Rattle.image.specs.Checks.{entryCheck, entriesCheck, contentsCheck, headCheck, imageCheck}
-use Rattle.image.proofs.FormatLaws.{rule-words}
-use Rattle.image.proofs.NumberLaws.{length-part}
-use Rattle.image.proofs.BareLaws.{bare-first, bare-entry, bare-head, bare-contents}
-use Rattle.image.proofs.HeadLaws.{entry-facts, head-facts}
-use Rattle.image.proofs.StepLaws.{contents-total}
+use Rattle.image_form.specs.Bytes.{le, numberIn, part, bytes}
+use Rattle.image_form.specs.Formats.{wordBytes, ruleSize}
+use Rattle.image_form.specs.declared.Entry.{Entry}
+use Rattle.image_form.specs.Images.{Named, entryWith, ruleIn, rulesIn, entryIn, entriesIn, listsIn, total, formatIn, countIn, widthIn, entriesOf, listsOf, ruleBytes, rulesBytes, bodiesBytes, entryBytes, entriesFor, contentsBytes, bytesOf}
+use Rattle.image_check.specs.Checks.{entryCheck, entriesCheck, contentsCheck, headCheck, imageCheck}
+use Rattle.image_form.proofs.FormatLaws.{rule-words}
+use Rattle.image_form.proofs.NumberLaws.{length-part}
+use Rattle.image_check.proofs.BareLaws.{bare-first, bare-entry, bare-head, bare-contents}
+use Rattle.image_check.proofs.HeadLaws.{entry-facts, head-facts}
+use Rattle.image_check.proofs.StepLaws.{contents-total}
 use Rattle.image.proofs.SeekLaws.{length-entries, length-rulesIn}
 
 -- numbers that are bytes

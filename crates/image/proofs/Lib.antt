@@ -1,9 +1,4 @@
--- The laws of images, for this crate's proofs and for the crates above it.
-pub mod FormatLaws
-pub mod NumberLaws
-pub mod BareLaws
-pub mod HeadLaws
-pub mod StepLaws
+-- The laws of images that are asked and read, for this crate's proofs and for the crates above it.
 pub mod SeekLaws
 pub mod AskLaws
 pub mod PassedLaws

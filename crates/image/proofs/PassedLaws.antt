@@ -14,13 +14,13 @@ use Rattle.rules.specs.Checks.{widest, rulesCheck}
 use Rattle.rules.proofs.ReplyLaws.{then-second}
 use Rattle.rules.proofs.CheckLaws.{rules-valid}
 use Rattle.image.specs.declared.places.Place.{Place}
-use Rattle.image.specs.Bytes.{numberIn}
-use Rattle.image.specs.Formats.{ruleSize}
-use Rattle.image.specs.Images.{Entry, formatIn, widthIn, countIn, entriesOf, rulesIn, listsIn, listsOf}
-use Rattle.image.specs.Checks.{entryCheck, entriesCheck, listsCheck, headCheck, contentsCheck, bodiesCheck, imageCheck}
+use Rattle.image_form.specs.Formats.{ruleSize}
+use Rattle.image_form.specs.declared.Entry.{Entry}
+use Rattle.image_form.specs.Images.{entryIn, formatIn, widthIn, countIn, entriesOf, rulesIn, listsIn, listsOf}
+use Rattle.image_check.specs.Checks.{entryCheck, entriesCheck, listsCheck, headCheck, contentsCheck, bodiesCheck, imageCheck}
 use Rattle.image.specs.Places.{placeIn, placeAt, pickPlace, placeOf, listWith}
-use Rattle.image.proofs.BareLaws.{bare-first, bare-entry, bare-rules, bare-contents}
-use Rattle.image.proofs.HeadLaws.{entry-facts, head-narrow}
+use Rattle.image_check.proofs.BareLaws.{bare-first, bare-entry, bare-rules, bare-contents}
+use Rattle.image_check.proofs.HeadLaws.{entry-facts, head-narrow}
 use Rattle.image.proofs.SeekLaws.{image-facts, place-start, place-here, length-rulesIn}
 
 -- ---- the rules at a place
@@ -73,19 +73,23 @@ list-facts b id f =
 
 -- ---- the first list
 
-first-place : (b : List ℕ) → 1 ≤ countIn b → placeOf b (numberIn 2 10 b) ≡ placeAt true (4 + 8 * countIn b) (numberIn 2 8 b)
+-- the first contents entry, which stands right after the head
+abbrev pub firstEntry : List ℕ → Entry
+firstEntry b = entryIn (drop 4 b)
+
+first-place : (b : List ℕ) → 1 ≤ countIn b → placeOf b (firstEntry b .id) ≡ placeAt true (4 + 8 * countIn b) (firstEntry b .count)
 first-place b h =
-    place-start b (numberIn 2 10 b) (countIn b) refl
-    ∙ place-here (formatIn b) (numberIn 2 10 b) (countIn b) 4 (4 + 8 * countIn b) (numberIn 2 8 b) (numberIn 2 10 b) b refl refl (omega arith) refl
+    place-start b (firstEntry b .id) (countIn b) refl
+    ∙ place-here (formatIn b) (firstEntry b .id) (countIn b) 4 (4 + 8 * countIn b) b (firstEntry b) refl (omega arith) refl
 
 -- an accepted image has a first entry, and the id in it names a list: the one whose body stands right after the contents
 module _ (b : List ℕ) (f : imageCheck b ≡ passed) where
   pub first-within : 12 ≤ length b
   first-within = let h = image-facts b [] f .head in omega (arith, h .some, h .contents)
 
-  pub first-found : placeOf b (numberIn 2 10 b) .found ≡ true
+  pub first-found : placeOf b (firstEntry b .id) .found ≡ true
   first-found = ap (λ (p : Place). p .found) (first-place b (image-facts b [] f .head .some))
 
-  pub first-body : listWith b (numberIn 2 10 b) ≡ rulesIn (formatIn b) (numberIn 2 8 b) (drop (4 + 8 * countIn b) b)
+  pub first-body : listWith b (firstEntry b .id) ≡ rulesIn (formatIn b) (firstEntry b .count) (drop (4 + 8 * countIn b) b)
   unfolding listWith
   first-body = ap (λ (p : Place). rulesIn (formatIn b) (p .count) (drop (p .from) b)) (first-place b (image-facts b [] f .head .some))

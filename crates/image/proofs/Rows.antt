@@ -7,10 +7,10 @@ use lib.ListN.{length, take}
 use Rattle.rules.specs.Rules.{rule}
 use Rattle.rules.specs.Replies.{Refuses, passed}
 use Rattle.rules.specs.Checks.{sizeCheck, patternFits, ruleCheck, rulesCheck}
-use Rattle.image.specs.Bytes.{le, bytes}
-use Rattle.image.specs.Formats.{known, wordBytes, ruleSize, mostPlaces, formatCheck, rangeCheck}
-use Rattle.image.specs.Images.{Named, named, rulesIn, entriesIn, listsIn, entriesOf, listsOf, rulesBytes, bodiesBytes, entriesFor, contentsBytes, bytesOf}
-use Rattle.image.specs.Checks.{headCheck, entryCheck, entriesCheck, contentsCheck, listsCheck, bodiesCheck, imageCheck}
+use Rattle.image_form.specs.Bytes.{le, bytes}
+use Rattle.image_form.specs.Formats.{known, wordBytes, ruleSize, mostPlaces, formatCheck, rangeCheck}
+use Rattle.image_form.specs.Images.{Named, named, rulesIn, entriesIn, listsIn, entriesOf, listsOf, rulesBytes, bodiesBytes, entriesFor, contentsBytes, bytesOf}
+use Rattle.image_check.specs.Checks.{headCheck, entryCheck, entriesCheck, contentsCheck, listsCheck, bodiesCheck, imageCheck}
 use Rattle.image.specs.Places.{placeIn, placeOf}
 use Rattle.image.specs.Calls.{idCheck}
 

@@ -13,15 +13,16 @@ use Rattle.rules.specs.Rules.{rule}
 use Rattle.rules.specs.Replies.{Reply, passed, unlessRefused}
 use Rattle.rules.proofs.ReplyLaws.{then-second}
 use Rattle.image.specs.declared.places.Place.{Place}
-use Rattle.image.specs.Bytes.{part, le}
-use Rattle.image.specs.Formats.{wordBytes, ruleSize}
-use Rattle.image.specs.Images.{Named, Entry, ruleIn, rulesIn, listsIn, total, formatIn, countIn, entriesOf, listsOf, rulesBytes}
-use Rattle.image.specs.Checks.{entryCheck, entriesCheck, headCheck, contentsCheck, imageCheck}
+use Rattle.image_form.specs.Bytes.{part, le}
+use Rattle.image_form.specs.Formats.{wordBytes, ruleSize}
+use Rattle.image_form.specs.declared.Entry.{Entry}
+use Rattle.image_form.specs.Images.{Named, ruleIn, rulesIn, listsIn, total, formatIn, countIn, entriesOf, listsOf, rulesBytes}
+use Rattle.image_check.specs.Checks.{entryCheck, entriesCheck, headCheck, contentsCheck, imageCheck}
 use Rattle.image.specs.Places.{placeIn, placeAt, pickPlace, placeOf, listWith}
 use Rattle.image.specs.Calls.{idCheck, bodyOf}
-use Rattle.image.proofs.FormatLaws.{rule-words}
-use Rattle.image.proofs.BareLaws.{bare-first, bare-image, bare-contents, bare-entry}
-use Rattle.image.proofs.HeadLaws.{entry-facts}
+use Rattle.image_form.proofs.FormatLaws.{rule-words}
+use Rattle.image_check.proofs.BareLaws.{bare-first, bare-image, bare-contents, bare-entry}
+use Rattle.image_check.proofs.HeadLaws.{entry-facts}
 use Rattle.image.proofs.SeekLaws.{image-facts, place-fits}
 use Rattle.image.proofs.BackLaws.{AreBytes, bytes-drop, rules-back}
 

@@ -5,11 +5,8 @@ use Prim.Native.Nat.{ℕ}
 use Rattle.rules.specs.declared.Verdict.{Verdict}
 use Rattle.rules.specs.Replies.{Gives, verdictReply}
 use Rattle.rules.proofs.ReplyLaws.{gives-refuses, one-refusal, one-verdict, one-value}
-use Rattle.image.specs.declared.FormatLayout.{FormatLayout}
 use Rattle.image.specs.declared.Outcome.{Outcome}
 use Rattle.image.specs.declared.Listed.{Listed}
-use Rattle.image.specs.Formats.{layoutOf}
-use Rattle.image.specs.Checks.{imageCheck}
 use Rattle.image.specs.Replies.{outcomeReply, listedReply}
 use Rattle.image.specs.Calls.{formatReply, widthReply, countReply, entryReply, idCheck, bodyOf, ReadOut}
 
@@ -35,15 +32,7 @@ one-listed (Listed.Refused a) (Listed.Refused b) e = ap Listed.Refused (one-refu
 
 -- ---- the calls
 
--- layout
-pub layout-once : (f : ℕ) (x y : FormatLayout) → x ≡ layoutOf f → y ≡ layoutOf f → x ≡ y
-layout-once f x y p q = p ∙ sym q
-
 module _ (b : List ℕ) where
-  -- check
-  pub check-once : (x y : Verdict) → verdictReply x ≡ imageCheck b → verdictReply y ≡ imageCheck b → x ≡ y
-  check-once x y p q = one-verdict x y (p ∙ sym q)
-
   -- format
   pub format-once : (x y : Outcome) → outcomeReply x ≡ formatReply b → outcomeReply y ≡ formatReply b → x ≡ y
   format-once x y p q = one-outcome x y (p ∙ sym q)

@@ -1,7 +1,3 @@
-pub mod Formats
-pub mod Bytes
-pub mod Images
-pub mod Checks
 pub mod Places
 pub mod Replies
 pub mod Calls

@@ -1,7 +1,7 @@
 -- What comparing lists of two images comes to, as the code's tests come to it.
 use mathlib.Core.Path.{_≡_, refl, sym, ap, _∙_, subst, subst⁻¹, subst₂}
 use mathlib.Core.List.{List}
-use Prim.Native.Nat.{ℕ, _≤_}
+use Prim.Native.Nat.{ℕ}
 use lib.Dec.{eqb}
 use lib.ListN.{length}
 use borrow.Author.Tests.{eq-eqb, ne-eqb}
@@ -16,16 +16,15 @@ use Rattle.compare.specs.declared.Ending.{Ending}
 use Rattle.compare.specs.Runs.{Run, differences}
 use Rattle.compare.specs.Calls.{PortionDone, portionCheck, compareCheck, Comparison}
 use Rattle.compare.proofs.VerdictLaws.{in-order, outcome-refused}
-use Rattle.image.specs.Bytes.{numberIn}
-use Rattle.image.specs.Images.{widthIn}
-use Rattle.image.specs.Checks.{imageCheck}
+use Rattle.image_form.specs.Parts.{entryFrom}
+use Rattle.image_form.specs.Images.{widthIn}
+use Rattle.image_check.specs.Checks.{imageCheck}
 use Rattle.image.specs.Places.{listWith}
 use Rattle.image.specs.Calls.{idCheck}
-use Rattle.image.proofs.BareLaws.{bare-first, bare-image}
-use Rattle.image.proofs.PassedLaws.{first-within}
+use Rattle.image_check.proofs.BareLaws.{bare-first, bare-image}
 use Rattle.image_compare.specs.Comparing.{firstRules, compareListsCheck, compareFirstCheck, ListsCompared, FirstCompared}
 use Rattle.image_compare.specs.Parts.{RestCompared}
-use Rattle.image_compare.proofs.FirstLaws.{first-list, first-check}
+use Rattle.image_compare.proofs.FirstLaws.{first-list, first-told, first-check}
 
 -- ---- what a call leaves
 
@@ -124,7 +123,7 @@ module _ (old new : List ℕ) (start a b c d : ℕ) where
 
 -- comparing by the first lists' ids compares the first lists
 pub first-compared : (old : List ℕ) (i : ℕ) (new : List ℕ) (j start : ℕ) (first last olds news first′ last′ olds′ news′ : List ℕ) (r : Compared)
-    → (12 ≤ length old → i ≡ numberIn 2 10 old) → (12 ≤ length new → j ≡ numberIn 2 10 new)
+    → i ≡ entryFrom 4 old .id → j ≡ entryFrom 4 new .id
     → ListsCompared old i new j start first last olds news first′ last′ olds′ news′ r
     → FirstCompared old new start first last olds news first′ last′ olds′ news′ r
 first-compared old i new j start first last olds news first′ last′ olds′ news′ r p q o =
@@ -132,8 +131,8 @@ first-compared old i new j start first last olds news first′ last′ olds′ n
     first last olds news first′ last′ olds′ news′ r
     (λ ns f. let a : imageCheck old ≡ passed = old-passed old new start _ _ _ _ ns f in
     let b : imageCheck new ≡ passed = new-passed old new start _ _ _ _ ns f in
-    let k : listWith old i ≡ firstRules old = ap (listWith old) (p (first-within old a)) ∙ first-list old a in
-    let l : listWith new j ≡ firstRules new = ap (listWith new) (q (first-within new b)) ∙ first-list new b in
+    let k : listWith old i ≡ firstRules old = ap (listWith old) (first-told old i p a) ∙ first-list old a in
+    let l : listWith new j ≡ firstRules new = ap (listWith new) (first-told new j q b) ∙ first-list new b in
     λ m. differences (widthIn old) (k m) (l m) start)
     (outcome-same first last olds news first′ last′ olds′ news′ r
     (same-checks old new start (length first) (length last) (length olds) (length news) i j (first-check old i p) (first-check new j q)) refl o)

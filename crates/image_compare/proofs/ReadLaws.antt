@@ -20,12 +20,12 @@ use Rattle.rules.proofs.ReplyLaws.{then-next, then-second, gives-refuses, one-v
 use Rattle.rules.proofs.CheckLaws.{sound-list, lengths-yes, room-yes, width-inside}
 use Rattle.rules.proofs.SliceLaws.{rules-columns}
 use Rattle.image.specs.declared.Outcome.{Outcome}
-use Rattle.image.specs.Images.{widthIn}
-use Rattle.image.specs.Checks.{imageCheck}
+use Rattle.image_form.specs.Images.{widthIn}
+use Rattle.image_check.specs.Checks.{imageCheck}
 use Rattle.image.specs.Places.{placeOf, listWith}
 use Rattle.image.specs.Calls.{idCheck, readReply, ReadOut, filled}
 use Rattle.image.specs.Replies.{outcomeReply}
-use Rattle.image.proofs.BareLaws.{Bare, bare-first, bare-then, bare-need, bare-image}
+use Rattle.image_check.proofs.BareLaws.{Bare, bare-first, bare-then, bare-need, bare-image}
 use Rattle.image.proofs.PassedLaws.{length-with, list-facts}
 
 -- ---- rules in the first places of three slices, two numbers to a rule in the first two

@@ -9,8 +9,8 @@ use Rattle.rules.specs.Replies.{Reply, need, _then_}
 use Rattle.compare.specs.declared.Compared.{Compared}
 use Rattle.compare.specs.Runs.{differences}
 use Rattle.compare.specs.Calls.{PortionDone, portionCheck}
-use Rattle.image.specs.Images.{Named, widthIn, listsOf}
-use Rattle.image.specs.Checks.{imageCheck}
+use Rattle.image_form.specs.Images.{Named, widthIn, listsOf}
+use Rattle.image_check.specs.Checks.{imageCheck}
 use Rattle.image.specs.Places.{listWith}
 use Rattle.image.specs.Calls.{idCheck}
 

@@ -8,7 +8,7 @@ use Rattle.rules.specs.Replies.{Reply, need, _then_}
 use Rattle.compare.specs.declared.Compared.{Compared}
 use Rattle.compare.specs.Runs.{differences}
 use Rattle.compare.specs.Calls.{PortionDone, portionCheck}
-use Rattle.image.specs.Images.{widthIn}
+use Rattle.image_form.specs.Images.{widthIn}
 use Rattle.image.specs.Places.{listWith}
 use Rattle.image.specs.Calls.{idCheck}
 

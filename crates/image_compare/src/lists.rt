@@ -1,13 +1,11 @@
 // The comparison of a list of one image with a list of another.
 ghost use mathlib.Core.Path.{_≡_};
-ghost use Prim.Native.Nat.{_+_, _*_, _≤_, _<_};
-ghost use lib.ListN.{length};
 ghost use Rattle.words.specs.Halves.{num};
 ghost use Rattle.rules.specs.Replies.{passed};
 ghost use Rattle.rules.specs.Slices.{rulesOf};
 ghost use Rattle.rules.specs.Calls.{checkList};
-ghost use Rattle.image.specs.Bytes.{numberIn as numberAt};
-ghost use Rattle.image.specs.Images.{widthIn};
+ghost use Rattle.image_form.specs.Images.{widthIn};
+ghost use Rattle.image_form.specs.Parts.{entryFrom};
 ghost use Rattle.image_compare.specs.Comparing.{ListsCompared, FirstCompared};
 ghost use Rattle.image_compare.specs.Parts.{RestCompared};
 use compare::Compared;
@@ -15,6 +13,8 @@ use compare::Ending;
 use compare::compare;
 use image::Outcome;
 use image::read;
+use image_form::byte_at;
+use image_form::entry_in;
 use rules::Refusal;
 use rules::Wire;
 
@@ -26,13 +26,6 @@ fn refused(refusal: Refusal) -> Compared
         count: 0,
         ending: Ending::Refused(refusal),
     }
-}
-
-// A byte as a number that sums and products have room in.
-fn wide(x: u8) -> u16
-    ensures { λ r. ⌜ (r ≡ x) × (r < 256) ⌝ }
-{
-    x as u16
 }
 
 // Compares a list of the old image, which was read out, with the new image's list. The new image's refusal and its 15, then
@@ -50,7 +43,7 @@ fn compare_with(
     old_answer: &mut [u16],
     new_answer: &mut [u16],
 ) -> Compared
-    requires { ⌜ (4 ≤ length (now old)) × (checkList (widthIn (now old)) 1 (now care) (now value) (now decision) ≡ passed) ⌝ }
+    requires { ⌜ checkList (widthIn (now old)) 1 (now care) (now value) (now decision) ≡ passed ⌝ }
     ensures { λ r. ⌜ RestCompared (widthIn (now (old .entry))) (rulesOf (now (care .entry)) (now (value .entry)) (now (decision .entry)))
         (now (new .entry)) «new_id» (num (start .0))
         (now (first .entry)) (now (last .entry)) (now («old_answer» .entry)) (now («new_answer» .entry))
@@ -63,17 +56,17 @@ fn compare_with(
     match n {
         Outcome::Refused(x) => refused(x),
         Outcome::Number(rules) => {
-            if old[1] != new[1] {
+            let width = byte_at(old, 1);
+            if width != byte_at(new, 1) {
                 return refused(Refusal {
                     number: 16,
                     list: 0,
                     rule: 0,
                 });
             }
-            let width = wide(old[1]) as u32;
             let halves = rules * 2;
             compare(
-                width,
+                width as u32,
                 care,
                 value,
                 decision,
@@ -133,16 +126,12 @@ pub fn compare_lists(
     }
 }
 
-// The id of contents entry number k, counted from 1; 0 where the bytes end before it. It is asked before the image is checked.
-fn id_of(image: &[u8], k: usize) -> u16
-    requires { ⌜ k ≤ 16 ⌝ }
-    ensures { λ r. ⌜ (8 * k + 4 ≤ length (now (image .entry)) → r ≡ numberAt 2 (8 * k + 2) (now (image .entry))) ⌝ }
+// The id of an image's first list; 0 where the bytes end before it. It is asked before the image is checked.
+fn first_id(image: &[u8]) -> u16
+    ensures { λ r. ⌜ r ≡ entryFrom 4 (now (image .entry)) .id ⌝ }
 {
-    let at = 8 * k + 2;
-    if image.len() < at + 2 {
-        return 0;
-    }
-    wide(image[at + 1]) * 256 + wide(image[at])
+    let entry = entry_in(image, 4);
+    entry.id as u16
 }
 
 // Compares the first list of the old image with the first of the new one, from a header on. The old image's refusal, then
@@ -162,9 +151,9 @@ pub fn compare_first(
 {
     compare_lists(
         old,
-        id_of(old, 1),
+        first_id(old),
         new,
-        id_of(new, 1),
+        first_id(new),
         start,
         first,
         last,

@@ -13,16 +13,17 @@ use Rattle.rules.specs.Replies.{passed, need}
 use Rattle.rules.specs.Checks.{sizeCheck}
 use Rattle.rules.specs.Slices.{rulesOf, careOf, valueOf, decisionOf, caresOf, valuesOf, decisionsOf}
 use Rattle.rules.proofs.ReplyLaws.{then-next, then-second, need-then, need-yes}
-use Rattle.image.specs.Bytes.{le}
+use Rattle.image_form.specs.Bytes.{le}
 use Rattle.words.specs.Slices.{halvesOf}
 use Rattle.words.proofs.SliceLaws.{halves-length}
-use Rattle.image.specs.Formats.{ruleSize}
-use Rattle.image.specs.Images.{Named, named, Entry, listsIn, total, formatIn, countIn, widthIn, entriesIn, entriesOf, listsOf}
-use Rattle.image.specs.Checks.{entryCheck, entriesCheck, listsCheck, contentsCheck, headCheck, bodiesCheck, imageCheck}
+use Rattle.image_form.specs.Formats.{ruleSize}
+use Rattle.image_form.specs.declared.Entry.{Entry}
+use Rattle.image_form.specs.Images.{Named, named, listsIn, total, formatIn, countIn, widthIn, entriesIn, entriesOf, listsOf}
+use Rattle.image_check.specs.Checks.{entryCheck, entriesCheck, listsCheck, contentsCheck, headCheck, bodiesCheck, imageCheck}
 use Rattle.image_writer.specs.Writing.{sumOf, listsFrom, given, namesCheck, imageLength, writeCheck}
-use Rattle.image.proofs.BareLaws.{bare-first, bare-entry, bare-head, bare-contents}
-use Rattle.image.proofs.HeadLaws.{entry-facts, head-facts}
-use Rattle.image.proofs.StepLaws.{contents-total}
+use Rattle.image_check.proofs.BareLaws.{bare-first, bare-entry, bare-head, bare-contents}
+use Rattle.image_check.proofs.HeadLaws.{entry-facts, head-facts}
+use Rattle.image_check.proofs.StepLaws.{contents-total}
 use Rattle.image.proofs.SeekLaws.{length-rulesIn}
 use Rattle.image_writer.proofs.WriteLaws.{WriteFacts, facts-write, length-cut, rules-given}
 use Rattle.image.proofs.BackLaws.{AreBytes, bytes-drop, length-listsOf}

@@ -15,12 +15,12 @@ use Rattle.rules.proofs.ReplyLaws.{then-next, then-second, need-then, one-value
 use Rattle.rules.proofs.CheckLaws.{lengths-yes}
 use Rattle.image.specs.declared.Outcome.{Outcome}
 use Rattle.image.specs.declared.Listed.{Listed}
-use Rattle.image.specs.Images.{Named, named, formatIn, widthIn, countIn, listsOf}
-use Rattle.image.specs.Checks.{imageCheck}
+use Rattle.image_form.specs.Images.{Named, named, formatIn, widthIn, countIn, listsOf}
+use Rattle.image_check.specs.Checks.{imageCheck}
 use Rattle.image.specs.Places.{listWith}
 use Rattle.image.specs.Replies.{outcomeReply, listedReply}
 use Rattle.image.specs.Calls.{formatReply, widthReply, countReply, entryReply, readReply, ReadOut, filled}
-use Rattle.image.proofs.BareLaws.{bare-first, bare-image}
+use Rattle.image_check.proofs.BareLaws.{bare-first, bare-image}
 use Rattle.image.proofs.BackLaws.{AreBytes, length-listsOf}
 use Rattle.image.proofs.Theorems.{rulesNamed, list-named}
 use Rattle.image.proofs.Unique.{one-outcome}

@@ -23,13 +23,13 @@ use Rattle.rules.proofs.SliceLaws.{rules-take}
 use Rattle.rules.proofs.ZipLaws.{ap₃}
 use Rattle.words.proofs.SliceLaws.{words-drop}
 use Rattle.words.specs.Slices.{wordsOf}
-use Rattle.image.specs.Bytes.{part}
-use Rattle.image.specs.Formats.{known, ruleSize, mostPlaces, formatCheck, rangeCheck}
-use Rattle.image.specs.Checks.{listsCheck}
+use Rattle.image_form.specs.Bytes.{part}
+use Rattle.image_form.specs.Formats.{known, ruleSize, mostPlaces, formatCheck, rangeCheck}
+use Rattle.image_check.specs.Checks.{listsCheck}
 use Rattle.image_writer.specs.Writing.{sumOf, listsFrom, given, namesCheck, imageLength, givenCheck, shapeCheck, writeCheck}
-use Rattle.image.proofs.FormatLaws.{places-most}
-use Rattle.image.proofs.NumberLaws.{length-part}
-use Rattle.image.proofs.BareLaws.{Bare, bare-need, bare-then, bare-first}
+use Rattle.image_form.proofs.FormatLaws.{places-most}
+use Rattle.image_form.proofs.NumberLaws.{length-part}
+use Rattle.image_check.proofs.BareLaws.{Bare, bare-need, bare-then, bare-first}
 
 -- ---- counts
 

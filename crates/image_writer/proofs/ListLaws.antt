@@ -18,9 +18,10 @@ use Rattle.rules.proofs.ReplyLaws.{then-next, then-second, need-yes, one-value}
 use Rattle.rules.proofs.CheckLaws.{room-yes}
 use Rattle.rules.proofs.SliceLaws.{rules-columns}
 use Rattle.image.specs.declared.Outcome.{Outcome}
-use Rattle.image.specs.Formats.{ruleSize}
-use Rattle.image.specs.Images.{Entry, entryWith, Named, named, listsIn, formatIn, countIn, entriesOf, listsOf}
-use Rattle.image.specs.Checks.{imageCheck}
+use Rattle.image_form.specs.Formats.{ruleSize}
+use Rattle.image_form.specs.declared.Entry.{Entry}
+use Rattle.image_form.specs.Images.{entryWith, Named, named, listsIn, formatIn, countIn, entriesOf, listsOf}
+use Rattle.image_check.specs.Checks.{imageCheck}
 use Rattle.image.specs.Places.{placeIn, placeAt, pickPlace, placeOf, listWith}
 use Rattle.image.specs.Calls.{entryReply, idCheck, readReply, ReadOut, filled}
 use Rattle.image.proofs.SeekLaws.{length-entries, length-rulesIn}

@@ -14,13 +14,14 @@ use Rattle.rules.specs.declared.Rule.{Rule as Held}
 use Rattle.rules.specs.Rule.{Rule, ruleOf, held}
 use Rattle.rules.proofs.SliceLaws.{told}
 use Rattle.rules.specs.Slices.{ruleAt, blank}
-use Rattle.image.specs.Bytes.{bytes}
-use Rattle.image.specs.Formats.{wordBytes, ruleSize}
-use Rattle.image.specs.Images.{Entry, entryWith, entryBytes, ruleBytes, rulesBytes, contentsBytes}
+use Rattle.image_form.specs.Bytes.{bytes}
+use Rattle.image_form.specs.Formats.{wordBytes, ruleSize}
+use Rattle.image_form.specs.declared.Entry.{Entry}
+use Rattle.image_form.specs.Images.{entryWith, entryBytes, ruleBytes, rulesBytes, contentsBytes}
 use Rattle.image.specs.Calls.{filled}
 use Rattle.image_writer.specs.Writing.{}
 use Rattle.image_writer.specs.Putting.{over, entriesGiven}
-use Rattle.image.proofs.FormatLaws.{word-one, word-two, rule-words, times-down}
+use Rattle.image_form.proofs.FormatLaws.{word-one, word-two, rule-words, times-down}
 
 pub length-bytes : (n x : ℕ) → length (bytes n x) ≡ n
 unfolding bytes

@@ -11,9 +11,9 @@ use Rattle.rules.specs.Replies.{Reply, Gives, passed, unlessRefused}
 use Rattle.rules.proofs.ReplyLaws.{then-next}
 use Rattle.rules.proofs.SliceLaws.{rules-columns}
 use Rattle.image.specs.declared.Outcome.{Outcome}
-use Rattle.image.specs.Formats.{known, mostPlaces}
-use Rattle.image.specs.Images.{Named, formatIn, widthIn, listsOf, bytesOf}
-use Rattle.image.specs.Checks.{imageCheck}
+use Rattle.image_form.specs.Formats.{known, mostPlaces}
+use Rattle.image_form.specs.Images.{Named, formatIn, widthIn, listsOf, bytesOf}
+use Rattle.image_check.specs.Checks.{imageCheck}
 use Rattle.image.specs.Places.{listWith}
 use Rattle.image.proofs.BackLaws.{AreBytes, read-write}
 use Rattle.image.proofs.Theorems.{rulesNamed, list-named}

@@ -17,13 +17,14 @@ use Rattle.rules.specs.Slices.{rulesOf}
 use Rattle.rules.proofs.ReplyLaws.{fine-next, refused-stop, need-then, then-second}
 use Rattle.rules.proofs.SliceLaws.{rules-length}
 use Rattle.image.specs.declared.Outcome.{Outcome}
-use Rattle.image.specs.Formats.{ruleSize}
-use Rattle.image.specs.Images.{Entry, entryWith, entriesFor, ruleBytes, rulesBytes, bodiesBytes, contentsBytes, bytesOf}
-use Rattle.image.specs.Checks.{listsCheck}
+use Rattle.image_form.specs.Formats.{ruleSize}
+use Rattle.image_form.specs.declared.Entry.{Entry}
+use Rattle.image_form.specs.Images.{entryWith, entriesFor, ruleBytes, rulesBytes, bodiesBytes, contentsBytes, bytesOf}
+use Rattle.image_check.specs.Checks.{listsCheck}
 use Rattle.image.specs.Calls.{filled}
 use Rattle.image_writer.specs.Writing.{sumOf, listsFrom, given, namesCheck, imageLength, shapeCheck, writeCheck, writeReply, Written}
 use Rattle.image_writer.specs.Putting.{over, entriesGiven}
-use Rattle.image.proofs.BareLaws.{bare-first, bare-lists}
+use Rattle.image_check.proofs.BareLaws.{bare-first, bare-lists}
 use Rattle.image_writer.proofs.PutLaws.{over-over, over-imaged, length-contents, length-rulesBytes, length-given}
 use Rattle.image_writer.proofs.GivenLaws.{Shape, shape-facts, shape-passes, bare-shape, bare-names, names-sum, write-fine}
 

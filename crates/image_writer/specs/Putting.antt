@@ -2,8 +2,9 @@
 use Prim.Native.Nat.{ℕ, _+_, _*_}
 use mathlib.Core.List.{List, [], _∷_, _++_}
 use lib.ListN.{length, take, drop}
-use Rattle.image.specs.Formats.{ruleSize}
-use Rattle.image.specs.Images.{Entry, entryWith}
+use Rattle.image_form.specs.Formats.{ruleSize}
+use Rattle.image_form.specs.declared.Entry.{Entry}
+use Rattle.image_form.specs.Images.{entryWith}
 
 -- s, with l in place of what stands from byte p on.
 abbrev pub over : List ℕ → (p : ℕ) → List ℕ → List ℕ

@@ -9,9 +9,9 @@ use Rattle.rules.specs.Slices.{rulesOf}
 use Rattle.rules.specs.Replies.{Reply, Gives, passed, need, _then_, unlessRefused}
 use Rattle.rules.specs.Checks.{lengthsCheck, sizeCheck, roomCheck}
 use Rattle.image.specs.declared.Outcome.{Outcome}
-use Rattle.image.specs.Formats.{ruleSize, formatCheck, rangeCheck}
-use Rattle.image.specs.Images.{Named, named, bytesOf}
-use Rattle.image.specs.Checks.{listsCheck}
+use Rattle.image_form.specs.Formats.{ruleSize, formatCheck, rangeCheck}
+use Rattle.image_form.specs.Images.{Named, named, bytesOf}
+use Rattle.image_check.specs.Checks.{listsCheck}
 use Rattle.image.specs.Calls.{filled}
 use Rattle.image.specs.Replies.{outcomeReply}
 

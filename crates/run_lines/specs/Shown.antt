@@ -8,7 +8,7 @@ use Rattle.rules.specs.Replies.{Reply, Gives, _then_, unlessRefused}
 use Rattle.compare.specs.declared.Compared.{Compared}
 use Rattle.compare.specs.Runs.{Run, differences, portion, ending}
 use Rattle.compare.specs.Calls.{endingReply}
-use Rattle.image.specs.Images.{widthIn}
+use Rattle.image_form.specs.Images.{widthIn}
 use Rattle.image.specs.Places.{listWith}
 use Rattle.image_compare.specs.Comparing.{firstRules, compareFirstCheck, compareListsCheck}
 use Rattle.run_lines.specs.declared.FilesCompared.{FilesCompared}

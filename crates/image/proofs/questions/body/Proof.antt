@@ -3,15 +3,15 @@ use mathlib.Core.Path.{ap, _∙_}
 use Prim.Native.Nat.{ℕ, _-_}
 use denote.Ref.{now}
 use native.Mathlib.Nat.{add-sub-cancel-left}
-use Rattle.image.specs.Bytes.{part}
-use Rattle.image.proofs.FormatLaws.{layout-body}
+use Rattle.image_form.specs.Bytes.{part}
+use Rattle.image_form.proofs.FormatLaws.{layout-body}
 use Rattle.image.proofs.SeekLaws.{body-none, body-found, id-facts}
 use borrow.Author.Needs.{needs}
 use Rattle.image.proofs.questions.body.Statement.{statement}
 use Rattle.image.proofs.questions.body.Tie as tie
 use Rattle.image.proofs.questions.body.Reads as reads
 use Rattle.image.proofs.questions.body.Lts as lts
-use Rattle.image.proofs.formats.layout.Reads as layout-reads
+use Rattle.image_form.proofs.layout.Reads as layout-reads
 use Rattle.image.proofs.places.find.Reads as find-reads
 use Rattle.image.proofs.questions.body_refusal.Reads as body-refusal-reads
 

@@ -5,13 +5,13 @@ use Rattle.image_compare.proofs.lists.compare_first.Tie as tie
 use Rattle.image_compare.proofs.lists.compare_first.Reads as reads
 use Rattle.image_compare.proofs.lists.compare_first.Lts as lts
 use Rattle.image_compare.proofs.lists.compare_lists.Reads as compare-lists-reads
-use Rattle.image_compare.proofs.lists.id_of.Reads as id-of-reads
+use Rattle.image_compare.proofs.lists.first_id.Reads as first-id-reads
 
-id-of-requires : tie.Need-id-of-requires
-id-of-requires c κs = search needs
+first-id-requires : tie.Need-first-id-requires
+first-id-requires c κs = search needs
 
-id-of-requires-2 : tie.Need-id-of-requires-2
-id-of-requires-2 c κs = search needs
+first-id-requires-2 : tie.Need-first-id-requires-2
+first-id-requires-2 c κs = search needs
 
 compare-lists-requires : tie.Need-compare-lists-requires
 compare-lists-requires c κs = search needs
@@ -29,14 +29,14 @@ same-length-4 : tie.Need-same-length-4
 same-length-4 c = search needs
 
 returns : tie.Need-returns
-returns c = first-compared _ _ _ _ _ _ _ _ _ _ _ _ _ _ (c .before .before .before .before .before .before .before .before .before .before .before .before .before .before .id-of .ensures) (c .before .before .before .before .before .before .before .before .before .before .before .before .before .id-of2 .ensures) (c .before .before .before .before .before .before .before .before .compare-lists .ensures)
+returns c = first-compared _ _ _ _ _ _ _ _ _ _ _ _ _ _ (c .before .before .before .before .before .before .before .before .before .before .before .before .before .before .first-id .ensures) (c .before .before .before .before .before .before .before .before .before .before .before .before .before .first-id2 .ensures) (c .before .before .before .before .before .before .before .before .compare-lists .ensures)
 
 pub compare-first-spec : {M : Type 1} → statement M
 compare-first-spec =
     tie.close
     (tie.spec
-    id-of-requires
-    id-of-requires-2
+    first-id-requires
+    first-id-requires-2
     compare-lists-requires
     same-length
     same-length-2

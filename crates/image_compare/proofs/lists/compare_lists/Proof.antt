@@ -1,6 +1,4 @@
-use mathlib.Core.List.{[]}
 use native.Mathlib.Omega.{arith}
-use Rattle.image.proofs.SeekLaws.{image-facts}
 use Rattle.image_compare.proofs.ReadLaws.{held-rules, held-cares, held-values, held-decisions, room-cares, room-values, room-decisions, held-passes, read-refused, read-passed, read-image, read-few, read-held}
 use Rattle.image_compare.proofs.CompareLaws.{lists-refused, lists-compared}
 use borrow.Author.Needs.{needs}
@@ -55,7 +53,7 @@ slice-aggregate-compare-with-3 : tie.Need-slice-aggregate-compare-with-3
 slice-aggregate-compare-with-3 c = held-decisions _ _ _ _ _ (read-held _ _ _ _ _ _ _ _ _ (c .before .before .before .before .before .before .before .before .before .read .ensures) _ (c .before .before .before .before .o2 .given .1))
 
 compare-with-requires : tie.Need-compare-with-requires
-compare-with-requires c κs = (omega (arith, image-facts _ [] (read-image _ _ _ _ _ _ _ _ _ (c .before .before .before .before .before .before .before .before .before .before .before .before .before .read .ensures) _ (c .before .before .before .before .before .before .before .before .o2 .given .1)) .head .least), (held-passes _ _ _ _ _ _ _ (read-image _ _ _ _ _ _ _ _ _ (c .before .before .before .before .before .before .before .before .before .before .before .before .before .read .ensures) _ (c .before .before .before .before .before .before .before .before .o2 .given .1)) (read-held _ _ _ _ _ _ _ _ _ (c .before .before .before .before .before .before .before .before .before .before .before .before .before .read .ensures) _ (c .before .before .before .before .before .before .before .before .o2 .given .1))))
+compare-with-requires c κs = held-passes _ _ _ _ _ _ _ (read-image _ _ _ _ _ _ _ _ _ (c .before .before .before .before .before .before .before .before .before .before .before .before .before .read .ensures) _ (c .before .before .before .before .before .before .before .before .o2 .given .1)) (read-held _ _ _ _ _ _ _ _ _ (c .before .before .before .before .before .before .before .before .before .before .before .before .before .read .ensures) _ (c .before .before .before .before .before .before .before .before .o2 .given .1))
 
 returns : tie.Need-returns
 returns c = lists-refused _ _ _ _ _ _ _ _ _ _ _ (read-refused _ _ _ _ _ _ _ _ _ (c .before .before .before .before .before .before .before .read .ensures) (search needs) (search needs) (search needs) (c .before .before .o .given .1)) (c .refused .ensures)

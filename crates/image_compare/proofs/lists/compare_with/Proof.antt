@@ -1,6 +1,5 @@
-use mathlib.Core.List.{[]}
+use mathlib.Core.Path.{sym, _∙_}
 use native.Mathlib.Omega.{arith}
-use Rattle.image.proofs.SeekLaws.{image-facts}
 use Rattle.image_compare.proofs.ReadLaws.{held-rules, held-cares, held-values, held-decisions, room-cares, room-values, room-decisions, held-passes, read-refused, read-passed, read-image, read-few, read-held}
 use Rattle.image_compare.proofs.CompareLaws.{rest-refused, rest-sixteen, rest-compared}
 use borrow.Author.Needs.{needs}
@@ -11,7 +10,7 @@ use Rattle.image_compare.proofs.lists.compare_with.Lts as lts
 use Rattle.compare.proofs.compare.Reads as compare-reads
 use Rattle.image.proofs.read.Reads as read-reads
 use Rattle.image_compare.proofs.lists.refused.Reads as refused-reads
-use Rattle.image_compare.proofs.lists.wide.Reads as wide-reads
+use Rattle.image_form.proofs.byte_at.Reads as byte-at-reads
 
 slice-aggregate-read : tie.Need-slice-aggregate-read
 slice-aggregate-read c = search needs
@@ -34,47 +33,41 @@ refused-requires c κs = search needs
 enum-known-n-2 : tie.Need-enum-known-n-2
 enum-known-n-2 c = search needs
 
-shared-slice-read-if1 : tie.Need-shared-slice-read-if1
-shared-slice-read-if1 c = search needs
+byte-at-requires : tie.Need-byte-at-requires
+byte-at-requires c κs = search needs
 
-shared-slice-read-if1-2 : tie.Need-shared-slice-read-if1-2
-shared-slice-read-if1-2 c = omega (arith, image-facts _ [] (read-image _ _ _ _ _ _ _ _ _ (c .before .before .before .before .before .before .before .before .read .ensures) _ (c .before .before .before .n2 .given .1)) .head .least)
+byte-at-requires-2 : tie.Need-byte-at-requires-2
+byte-at-requires-2 c κs = search needs
 
 refused-requires-2 : tie.Need-refused-requires-2
 refused-requires-2 c κs = search needs
 
 returns : tie.Need-returns
-returns c = rest-sixteen _ _ _ _ _ _ _ _ _ _ (read-passed _ _ _ _ _ _ _ _ _ (c .before .before .before .before .before .before .before .before .before .before .read .ensures) _ (c .before .before .before .before .before .n2 .given .1)) (c .before .if1 .taken) (c .refused2 .ensures)
-
-shared-slice-read-wide : tie.Need-shared-slice-read-wide
-shared-slice-read-wide c = search needs
-
-wide-requires : tie.Need-wide-requires
-wide-requires c κs = search needs
-
-cast-width : tie.Need-cast-width
-cast-width c = search needs
+returns c = rest-sixteen _ _ _ _ _ _ _ _ _ _ (read-passed _ _ _ _ _ _ _ _ _ (c .before .before .before .before .before .before .before .before .before .before .read .ensures) _ (c .before .before .before .before .before .n2 .given .1)) (λ e. c .before .if1 .taken (c .before .before .before .byte-at .ensures .0 ∙ e ∙ sym (c .before .before .byte-at2 .ensures .0))) (c .refused2 .ensures)
 
 mul-halves : tie.Need-mul-halves
-mul-halves c = omega (arith, read-few _ _ _ _ _ _ _ _ _ (c .before .before .before .before .before .before .before .before .before .before .before .read .ensures) _ (c .before .before .before .before .before .before .n2 .given .1))
+mul-halves c = omega (arith, read-few _ _ _ _ _ _ _ _ _ (c .before .before .before .before .before .before .before .before .before .read .ensures) _ (c .before .before .before .before .n2 .given .1))
+
+cast-compare : tie.Need-cast-compare
+cast-compare c = search needs
 
 array-share-prefix-cares : tie.Need-array-share-prefix-cares
-array-share-prefix-cares c = room-cares _ _ _ _ _ (read-held _ _ _ _ _ _ _ _ _ (c .before .before .before .before .before .before .before .before .before .before .before .read .ensures) _ (c .before .before .before .before .before .before .n2 .given .1))
+array-share-prefix-cares c = room-cares _ _ _ _ _ (read-held _ _ _ _ _ _ _ _ _ (c .before .before .before .before .before .before .before .before .before .read .ensures) _ (c .before .before .before .before .n2 .given .1))
 
 slice-aggregate-compare : tie.Need-slice-aggregate-compare
-slice-aggregate-compare c = held-cares _ _ _ _ _ (read-held _ _ _ _ _ _ _ _ _ (c .before .before .before .before .before .before .before .before .before .before .before .before .read .ensures) _ (c .before .before .before .before .before .before .before .n2 .given .1))
+slice-aggregate-compare c = held-cares _ _ _ _ _ (read-held _ _ _ _ _ _ _ _ _ (c .before .before .before .before .before .before .before .before .before .before .read .ensures) _ (c .before .before .before .before .before .n2 .given .1))
 
 array-share-prefix-values : tie.Need-array-share-prefix-values
-array-share-prefix-values c = room-values _ _ _ _ _ (read-held _ _ _ _ _ _ _ _ _ (c .before .before .before .before .before .before .before .before .before .before .before .before .read .ensures) _ (c .before .before .before .before .before .before .before .n2 .given .1))
+array-share-prefix-values c = room-values _ _ _ _ _ (read-held _ _ _ _ _ _ _ _ _ (c .before .before .before .before .before .before .before .before .before .before .read .ensures) _ (c .before .before .before .before .before .n2 .given .1))
 
 slice-aggregate-compare-2 : tie.Need-slice-aggregate-compare-2
-slice-aggregate-compare-2 c = held-values _ _ _ _ _ (read-held _ _ _ _ _ _ _ _ _ (c .before .before .before .before .before .before .before .before .before .before .before .before .before .read .ensures) _ (c .before .before .before .before .before .before .before .before .n2 .given .1))
+slice-aggregate-compare-2 c = held-values _ _ _ _ _ (read-held _ _ _ _ _ _ _ _ _ (c .before .before .before .before .before .before .before .before .before .before .before .read .ensures) _ (c .before .before .before .before .before .before .n2 .given .1))
 
 array-share-prefix-decisions : tie.Need-array-share-prefix-decisions
-array-share-prefix-decisions c = room-decisions _ _ _ _ _ (read-held _ _ _ _ _ _ _ _ _ (c .before .before .before .before .before .before .before .before .before .before .before .before .before .read .ensures) _ (c .before .before .before .before .before .before .before .before .n2 .given .1))
+array-share-prefix-decisions c = room-decisions _ _ _ _ _ (read-held _ _ _ _ _ _ _ _ _ (c .before .before .before .before .before .before .before .before .before .before .before .read .ensures) _ (c .before .before .before .before .before .before .n2 .given .1))
 
 slice-aggregate-compare-3 : tie.Need-slice-aggregate-compare-3
-slice-aggregate-compare-3 c = held-decisions _ _ _ _ _ (read-held _ _ _ _ _ _ _ _ _ (c .before .before .before .before .before .before .before .before .before .before .before .before .before .before .read .ensures) _ (c .before .before .before .before .before .before .before .before .before .n2 .given .1))
+slice-aggregate-compare-3 c = held-decisions _ _ _ _ _ (read-held _ _ _ _ _ _ _ _ _ (c .before .before .before .before .before .before .before .before .before .before .before .before .read .ensures) _ (c .before .before .before .before .before .before .before .n2 .given .1))
 
 compare-requires : tie.Need-compare-requires
 compare-requires c κs = search needs
@@ -95,7 +88,7 @@ same-length-4 : tie.Need-same-length-4
 same-length-4 c = search needs
 
 returns-3 : tie.Need-returns-3
-returns-3 c = rest-compared _ _ _ _ _ _ _ _ _ _ _ _ _ _ _ _ _ _ _ (read-passed _ _ _ _ _ _ _ _ _ (c .before .before .before .before .before .before .before .before .before .before .before .before .before .before .before .before .before .before .before .before .before .before .before .before .before .before .before .read .ensures) _ (c .before .before .before .before .before .before .before .before .before .before .before .before .before .before .before .before .before .before .before .before .before .before .n2 .given .1)) (c .before .before .before .before .before .before .before .before .before .before .before .before .before .before .before .before .before .before .if1 .left) (c .before .before .before .before .before .before .before .before .before .before .before .before .before .before .before .before .before .before .before .before .before .before .before .before .before .before .before .before .before .before .before .before .before .before .before .before .before .before .before .before .pre .1) (held-passes _ _ _ _ _ _ _ (read-image _ _ _ _ _ _ _ _ _ (c .before .before .before .before .before .before .before .before .before .before .before .before .before .before .before .before .before .before .before .before .before .before .before .before .before .before .before .read .ensures) _ (c .before .before .before .before .before .before .before .before .before .before .before .before .before .before .before .before .before .before .before .before .before .before .n2 .given .1)) (read-held _ _ _ _ _ _ _ _ _ (c .before .before .before .before .before .before .before .before .before .before .before .before .before .before .before .before .before .before .before .before .before .before .before .before .before .before .before .read .ensures) _ (c .before .before .before .before .before .before .before .before .before .before .before .before .before .before .before .before .before .before .before .before .before .before .n2 .given .1))) (held-rules _ _ _ _ _ (read-held _ _ _ _ _ _ _ _ _ (c .before .before .before .before .before .before .before .before .before .before .before .before .before .before .before .before .before .before .before .before .before .before .before .before .before .before .before .read .ensures) _ (c .before .before .before .before .before .before .before .before .before .before .before .before .before .before .before .before .before .before .before .before .before .before .n2 .given .1))) _ (c .before .before .before .before .before .before .before .before .before .before .before .before .before .before .before .before .wide .ensures .0) (c .before .before .before .before .before .before .before .before .compare .ensures)
+returns-3 c = rest-compared _ _ _ _ _ _ _ _ _ _ _ _ _ _ _ _ _ _ _ (read-passed _ _ _ _ _ _ _ _ _ (c .before .before .before .before .before .before .before .before .before .before .before .before .before .before .before .before .before .before .before .before .before .before .before .before .before .read .ensures) _ (c .before .before .before .before .before .before .before .before .before .before .before .before .before .before .before .before .before .before .before .before .n2 .given .1)) (sym (c .before .before .before .before .before .before .before .before .before .before .before .before .before .before .before .before .before .before .byte-at .ensures .0) ∙ c .before .before .before .before .before .before .before .before .before .before .before .before .before .before .before .before .if1 .left ∙ c .before .before .before .before .before .before .before .before .before .before .before .before .before .before .before .before .before .byte-at2 .ensures .0) (c .before .before .before .before .before .before .before .before .before .before .before .before .before .before .before .before .before .before .before .before .before .before .before .before .before .before .before .before .before .before .before .before .before .before .before .before .before .before .pre) (held-passes _ _ _ _ _ _ _ (read-image _ _ _ _ _ _ _ _ _ (c .before .before .before .before .before .before .before .before .before .before .before .before .before .before .before .before .before .before .before .before .before .before .before .before .before .read .ensures) _ (c .before .before .before .before .before .before .before .before .before .before .before .before .before .before .before .before .before .before .before .before .n2 .given .1)) (read-held _ _ _ _ _ _ _ _ _ (c .before .before .before .before .before .before .before .before .before .before .before .before .before .before .before .before .before .before .before .before .before .before .before .before .before .read .ensures) _ (c .before .before .before .before .before .before .before .before .before .before .before .before .before .before .before .before .before .before .before .before .n2 .given .1))) (held-rules _ _ _ _ _ (read-held _ _ _ _ _ _ _ _ _ (c .before .before .before .before .before .before .before .before .before .before .before .before .before .before .before .before .before .before .before .before .before .before .before .before .before .read .ensures) _ (c .before .before .before .before .before .before .before .before .before .before .before .before .before .before .before .before .before .before .before .before .n2 .given .1))) _ (c .before .before .before .before .before .before .before .before .before .before .before .before .before .before .before .before .before .before .byte-at .ensures .0) (c .before .before .before .before .before .before .before .before .compare .ensures)
 
 pub compare-with-spec : {M : Type 1} → statement M
 compare-with-spec =
@@ -108,14 +101,12 @@ compare-with-spec =
     enum-known-n
     refused-requires
     enum-known-n-2
-    shared-slice-read-if1
-    shared-slice-read-if1-2
+    byte-at-requires
+    byte-at-requires-2
     refused-requires-2
     returns
-    shared-slice-read-wide
-    wide-requires
-    cast-width
     mul-halves
+    cast-compare
     array-share-prefix-cares
     slice-aggregate-compare
     array-share-prefix-values

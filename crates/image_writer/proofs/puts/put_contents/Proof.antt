@@ -1,5 +1,5 @@
-use Rattle.image.specs.Formats.{ruleSize}
-use Rattle.image.proofs.FormatLaws.{layout-body}
+use Rattle.image_form.specs.Formats.{ruleSize}
+use Rattle.image_form.proofs.FormatLaws.{layout-body}
 use mathlib.Core.Path.{_≡_, refl, sym, _∙_}
 use Prim.Native.Nat.{_+_, _-_, _*_, _≤_}
 use native.Mathlib.Omega.{arith}
@@ -7,7 +7,7 @@ use lib.ListN.{length, drop}
 use denote.Ref.{now}
 use Rattle.image_writer.proofs.PutLaws.{entries-put, entries-put-end}
 use Rattle.image_writer.proofs.GivenLaws.{size-turn}
-use Rattle.image.specs.Images.{contentsBytes}
+use Rattle.image_form.specs.Images.{contentsBytes}
 use Rattle.image_writer.specs.Writing.{sumOf}
 use Rattle.image_writer.specs.Putting.{over, entriesGiven}
 use borrow.Author.Needs.{needs}
@@ -15,7 +15,7 @@ use Rattle.image_writer.proofs.puts.put_contents.Statement.{statement}
 use Rattle.image_writer.proofs.puts.put_contents.Tie as tie
 use Rattle.image_writer.proofs.puts.put_contents.Reads as reads
 use Rattle.image_writer.proofs.puts.put_contents.Lts as lts
-use Rattle.image.proofs.layout.Reads as layout-reads
+use Rattle.image_form.proofs.layout.Reads as layout-reads
 use Rattle.image_writer.proofs.puts.wide16.Reads as wide16-reads
 use Rattle.image_writer.proofs.puts.put_entry.Reads as put-entry-reads
 

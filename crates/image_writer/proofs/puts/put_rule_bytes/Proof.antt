@@ -1,5 +1,5 @@
-use Rattle.image.proofs.FormatLaws.{rule-words, layout-word}
-use Rattle.image.specs.Formats.{wordBytes}
+use Rattle.image_form.proofs.FormatLaws.{rule-words, layout-word}
+use Rattle.image_form.specs.Formats.{wordBytes}
 use Rattle.image_writer.proofs.PutLaws.{put-three}
 use Prim.Native.Nat.{_+_}
 use denote.Ref.{now}
@@ -9,7 +9,7 @@ use Rattle.image_writer.proofs.puts.put_rule_bytes.Statement.{statement
 use Rattle.image_writer.proofs.puts.put_rule_bytes.Tie as tie
 use Rattle.image_writer.proofs.puts.put_rule_bytes.Reads as reads
 use Rattle.image_writer.proofs.puts.put_rule_bytes.Lts as lts
-use Rattle.image.proofs.layout.Reads as layout-reads
+use Rattle.image_form.proofs.layout.Reads as layout-reads
 use Rattle.image_writer.proofs.puts.put16.Reads as put16-reads
 use Rattle.image_writer.proofs.puts.put_word.Reads as put-word-reads
 

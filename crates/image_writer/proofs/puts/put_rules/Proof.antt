@@ -1,5 +1,5 @@
-use Rattle.image.specs.Formats.{ruleSize}
-use Rattle.image.proofs.FormatLaws.{times-less, times-left, layout-rule}
+use Rattle.image_form.specs.Formats.{ruleSize}
+use Rattle.image_form.proofs.FormatLaws.{times-less, times-left, layout-rule}
 use mathlib.Core.Path.{_≡_, refl, ap, sym, _∙_}
 use Prim.Native.Nat.{ℕ, _+_, _-_, _*_, _≤_}
 use native.Mathlib.Omega.{arith}
@@ -8,14 +8,14 @@ use denote.Ref.{now}
 use Rattle.image_writer.proofs.PutLaws.{rules-put, rules-put-end}
 use Rattle.rules.proofs.SliceLaws.{rules-length}
 use Rattle.rules.specs.Slices.{rulesOf}
-use Rattle.image.specs.Images.{rulesBytes}
+use Rattle.image_form.specs.Images.{rulesBytes}
 use Rattle.image_writer.specs.Putting.{over}
 use borrow.Author.Needs.{needs}
 use Rattle.image_writer.proofs.puts.put_rules.Statement.{statement}
 use Rattle.image_writer.proofs.puts.put_rules.Tie as tie
 use Rattle.image_writer.proofs.puts.put_rules.Reads as reads
 use Rattle.image_writer.proofs.puts.put_rules.Lts as lts
-use Rattle.image.proofs.layout.Reads as layout-reads
+use Rattle.image_form.proofs.layout.Reads as layout-reads
 use Rattle.image_writer.proofs.puts.put_rule_bytes.Reads as put-rule-bytes-reads
 use Rattle.rules.proofs.rule_at.Reads as rule-at-reads
 

@@ -1,4 +1,4 @@
-use Rattle.image.proofs.FormatLaws.{word-two, word-least}
+use Rattle.image_form.proofs.FormatLaws.{word-two, word-least}
 use Rattle.image_writer.proofs.PutLaws.{put-narrow, put-wide}
 use denote.Ref.{now}
 use native.Mathlib.Omega.{arith}

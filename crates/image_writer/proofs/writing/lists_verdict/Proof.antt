@@ -6,7 +6,7 @@ use denote.Ref.{now}
 use Rattle.image_writer.proofs.GivenLaws.{sum-turn, names-small, cut-stop, cut-pass, cut-end}
 use native.Mathlib.Nat.{add-sub-cancel-left}
 use Rattle.rules.specs.Slices.{rulesOf}
-use Rattle.image.specs.Checks.{listsCheck}
+use Rattle.image_check.specs.Checks.{listsCheck}
 use Rattle.image_writer.specs.Writing.{sumOf, listsFrom}
 use borrow.Author.Needs.{needs}
 use Rattle.image_writer.proofs.writing.lists_verdict.Statement.{statement}

@@ -1,4 +1,4 @@
-use Rattle.image.proofs.FormatLaws.{layout-known, layout-unknown, layout-places}
+use Rattle.image_form.proofs.FormatLaws.{layout-known, layout-unknown, layout-places}
 use Rattle.image_writer.proofs.GivenLaws.{shape-format, shape-low, shape-high, shape-given, shape-none, shape-many, shape-fine}
 use mathlib.Core.Path.{_∙_}
 use native.Mathlib.Omega.{arith}
@@ -8,7 +8,7 @@ use Rattle.image_writer.proofs.writing.shape_verdict.Tie as tie
 use Rattle.image_writer.proofs.writing.shape_verdict.Reads as reads
 use Rattle.image_writer.proofs.writing.shape_verdict.Lts as lts
 use Rattle.rules.proofs.refused.Reads as refused-reads
-use Rattle.image.proofs.layout.Reads as layout-reads
+use Rattle.image_form.proofs.layout.Reads as layout-reads
 use Rattle.image_writer.proofs.writing.given_verdict.Reads as given-verdict-reads
 
 layout-requires : tie.Need-layout-requires

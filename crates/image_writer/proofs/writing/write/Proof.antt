@@ -1,4 +1,4 @@
-use Rattle.image.proofs.FormatLaws.{layout-body}
+use Rattle.image_form.proofs.FormatLaws.{layout-body}
 use lib.ListN.{length}
 use denote.Ref.{now}
 use Prim.Native.Nat.{_-_}
@@ -10,7 +10,7 @@ use Rattle.image_writer.proofs.writing.write.Statement.{statement}
 use Rattle.image_writer.proofs.writing.write.Tie as tie
 use Rattle.image_writer.proofs.writing.write.Reads as reads
 use Rattle.image_writer.proofs.writing.write.Lts as lts
-use Rattle.image.proofs.layout.Reads as layout-reads
+use Rattle.image_form.proofs.layout.Reads as layout-reads
 use Rattle.image_writer.proofs.puts.put_contents.Reads as put-contents-reads
 use Rattle.image_writer.proofs.puts.put_head.Reads as put-head-reads
 use Rattle.image_writer.proofs.puts.put_rules.Reads as put-rules-reads

@@ -1,4 +1,4 @@
-use Rattle.image.proofs.FormatLaws.{layout-body}
+use Rattle.image_form.proofs.FormatLaws.{layout-body}
 use lib.ListN.{length}
 use denote.Ref.{now}
 use mathlib.Core.Path.{ap, sym, _∙_}
@@ -12,7 +12,7 @@ use Rattle.image_writer.proofs.writing.write_verdict.Tie as tie
 use Rattle.image_writer.proofs.writing.write_verdict.Reads as reads
 use Rattle.image_writer.proofs.writing.write_verdict.Lts as lts
 use Rattle.rules.proofs.refused.Reads as refused-reads
-use Rattle.image.proofs.layout.Reads as layout-reads
+use Rattle.image_form.proofs.layout.Reads as layout-reads
 use Rattle.image_writer.proofs.writing.lists_verdict.Reads as lists-verdict-reads
 use Rattle.image_writer.proofs.writing.names_verdict.Reads as names-verdict-reads
 use Rattle.image_writer.proofs.writing.shape_verdict.Reads as shape-verdict-reads

@@ -1,0 +1,5 @@
+-- The laws of an image's checks, for this crate's proofs and for the crates above it.
+pub mod BareLaws
+pub mod HeadLaws
+pub mod StepLaws
+pub mod Unique

@@ -1,0 +1,4 @@
+// The checks of an image, on any bytes.
+mod checks;
+
+pub use checks::check;

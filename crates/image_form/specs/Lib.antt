@@ -1,0 +1,4 @@
+pub mod Formats
+pub mod Bytes
+pub mod Images
+pub mod Parts
