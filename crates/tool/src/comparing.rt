@@ -8,7 +8,6 @@ use crate::slices;
 use compare::Compared;
 use compare::Ending;
 use rules::Refusal;
-use rules::Verdict;
 use rules::Wire;
 use text::Number;
 use words::Word;
@@ -95,19 +94,6 @@ fn compared(old: &[u8], new: &[u8], named: bool, id: Word, start: Word) -> Compa
     }
     Compared {
         count: 0,
-        ending: Ending::Refused(no_list(old)),
-    }
-}
-
-// Why two images are not compared by an id that no list has: the old image's refusal, then 15.
-fn no_list(old: &[u8]) -> Refusal {
-    let o = image::check(old);
-    if let Verdict::Refused(x) = o {
-        return x;
-    }
-    Refusal {
-        number: 15,
-        list: 0,
-        rule: 0,
+        ending: Ending::Refused(lists::no_list(old)),
     }
 }

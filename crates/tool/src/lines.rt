@@ -64,12 +64,7 @@ pub(crate) fn trouble(what: &[u8], word: &[u8]) {
 }
 
 pub(crate) fn usage() {
-    say(b"usage:\n");
-    say(b"  ./myrhjord check FILE\n");
-    say(b"  ./myrhjord show FILE\n");
-    say(b"  ./myrhjord lookup FILE ID HEADER\n");
-    say(b"  ./myrhjord runs FILE ID\n");
-    say(b"  ./myrhjord weave FILE OUT\n");
-    say(b"  ./myrhjord compare OLD NEW [ID [START]]\n");
-    say(b"Numbers are decimal, or hexadecimal after 0x.\n");
+    say(
+        b"usage:\n  ./myrhjord check FILE\n  ./myrhjord show FILE\n  ./myrhjord lookup FILE ID HEADER\n  ./myrhjord runs FILE ID\n  ./myrhjord weave FILE OUT\n  ./myrhjord compare OLD NEW [ID [START]]\nNumbers are decimal, or hexadecimal after 0x.\n",
+    );
 }

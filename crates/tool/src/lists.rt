@@ -1,33 +1,16 @@
-// What is in an image: its lists, and their rules as patterns.
-use crate::files;
-use crate::files::Held;
+// What is in an image: its format, its width and its lists.
 use crate::lines;
-use crate::slices;
+use crate::questions;
+use crate::questions::Question;
 use image::Listed;
 use image::Outcome;
 use rules::Refusal;
-use rules::Rule;
 use rules::Verdict;
 use words::Word;
 
-// The width of an image that is accepted; 0 for any other.
+// The width of an image that was accepted.
 pub(crate) fn width_of(image: &[u8]) -> u32 {
-    let o = image::width(image);
-    if let Outcome::Number(w) = o {
-        if w <= 128 {
-            return w as u32;
-        }
-    }
-    0
-}
-
-// The format of an image that is accepted; 0 for any other.
-fn format_of(image: &[u8]) -> usize {
-    let o = image::format(image);
-    if let Outcome::Number(n) = o {
-        return n;
-    }
-    0
+    image_form::byte_at(image, 1) as u32
 }
 
 // Whether an image that was accepted has a list with that id.
@@ -43,7 +26,7 @@ pub(crate) fn has(image: &[u8], id: Word) -> bool {
 }
 
 // Reads a list out. An id above 65,535 is that of no list: the image's own refusals, then 15.
-pub(crate) fn read_list(
+pub(crate) fn read(
     image: &[u8],
     id: Word,
     care: &mut [u64],
@@ -54,28 +37,24 @@ pub(crate) fn read_list(
     if number <= 65535 {
         return image::read(image, number as u16, care, value, decision);
     }
+    Outcome::Refused(no_list(image))
+}
+
+// Why an image has no list with an id that none can have.
+pub(crate) fn no_list(image: &[u8]) -> Refusal {
     let v = image::check(image);
     if let Verdict::Refused(x) = v {
-        return Outcome::Refused(x);
+        return x;
     }
-    Outcome::Refused(Refusal {
+    Refusal {
         number: 15,
         list: 0,
         rule: 0,
-    })
-}
-
-// check FILE
-pub(crate) fn check_file(at: usize) {
-    let mut space = files::space();
-    let all: &mut [u8] = &mut space;
-    let held = files::load_word(at, 2, all);
-    if let Held::Bytes(n) = held {
-        check_image(slices::bytes(all, n));
     }
 }
 
-fn check_image(image: &[u8]) {
+// check FILE
+pub(crate) fn check(image: &[u8]) {
     let v = image::check(image);
     match v {
         Verdict::Fine => accepted(image),
@@ -85,81 +64,52 @@ fn check_image(image: &[u8]) {
 
 fn accepted(image: &[u8]) {
     lines::say(b"accepted\n");
-    lines::named(b"format ", format_of(image) as u64);
-    lines::named(b"width ", width_of(image) as u64);
-    let mut left: usize = 16;
-    while left > 0 {
-        entry_line(image, 17 - left);
-        left -= 1;
-    }
-}
-
-fn entry_line(image: &[u8], k: usize) {
-    let e = image::entry(image, k);
-    if let Listed::List { id, rules } = e {
-        lines::say(b"list ");
-        lines::number(id as u64);
-        lines::named(b" rules ", rules as u64);
-    }
+    lines::named(b"format ", image_form::byte_at(image, 0) as u64);
+    lines::named(b"width ", image_form::byte_at(image, 1) as u64);
+    each(image, Part::Size);
 }
 
 // show FILE
-pub(crate) fn show_file(at: usize) {
-    let mut space = files::space();
-    let all: &mut [u8] = &mut space;
-    let held = files::load_word(at, 2, all);
-    if let Held::Bytes(n) = held {
-        show_image(slices::bytes(all, n));
-    }
-}
-
-fn show_image(image: &[u8]) {
+pub(crate) fn show(image: &[u8]) {
     let v = image::check(image);
     match v {
-        Verdict::Fine => show_lists(image),
+        Verdict::Fine => each(image, Part::Rules),
         Verdict::Refused(x) => lines::refusal(x),
     }
 }
 
-fn show_lists(image: &[u8]) {
+// What is said of each list of an image: how many rules it has, or its rules.
+enum Part {
+    Size,
+    Rules,
+}
+
+// Says it of one list after the other. An image has at most 16.
+fn each(image: &[u8], part: Part) {
     let mut left: usize = 16;
     while left > 0 {
-        show_entry(image, 17 - left);
+        say_entry(image, 17 - left, part);
         left -= 1;
     }
 }
 
-fn show_entry(image: &[u8], k: usize) {
+fn say_entry(image: &[u8], k: usize, part: Part) {
     let e = image::entry(image, k);
     if let Listed::List { id, rules } = e {
-        lines::named(b"list ", id as u64);
-        show_list(image, id, rules);
+        match part {
+            Part::Size => size(id as u64, rules as u64),
+            Part::Rules => show_list(image, id as u64),
+        }
     }
 }
 
-fn show_list(image: &[u8], id: u16, count: usize) {
-    let mut care_space = [0u64; 2048];
-    let mut value_space = [0u64; 2048];
-    let mut decision_space = [0u16; 1024];
-    let care: &mut [u64] = &mut care_space;
-    let value: &mut [u64] = &mut value_space;
-    let decision: &mut [u16] = &mut decision_space;
-    image::read(image, id, care, value, decision);
-    show_rules(width_of(image), care, value, decision, count);
+fn size(id: u64, rules: u64) {
+    lines::say(b"list ");
+    lines::number(id);
+    lines::named(b" rules ", rules);
 }
 
-fn show_rules(width: u32, care: &[u64], value: &[u64], decision: &[u16], count: usize) {
-    let mut left = count;
-    while left > 0 {
-        show_rule(width, rules::rule_at(care, value, decision, count - left));
-        left -= 1;
-    }
-}
-
-fn show_rule(width: u32, rule: Rule) {
-    let mut space = [0u8; 128];
-    let pattern: &mut [u8] = &mut space;
-    let n = text::write_pattern(width, rule, pattern);
-    lines::say(slices::bytes(pattern, n));
-    lines::named(b" ", rule.decision as u64);
+fn show_list(image: &[u8], id: u64) {
+    lines::named(b"list ", id);
+    questions::ask(image, words::wide(id), Question::Rules);
 }

@@ -3,6 +3,7 @@
 mod commands;
 mod comparing;
 mod files;
+mod images;
 mod lines;
 mod lists;
 mod numbers;

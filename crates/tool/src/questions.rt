@@ -1,56 +1,67 @@
-// Questions about one list of an image: what it answers to a header, and its runs.
-use crate::files;
-use crate::files::Held;
+// Questions about one list of an image: its rules, what it answers to a header, and its runs.
 use crate::lines;
 use crate::lists;
-use crate::numbers;
 use crate::slices;
 use image::Outcome;
 use rules::Looked;
 use rules::Refusal;
+use rules::Rule;
 use rules::Verdict;
 use rules::Wire;
 use swaps::Swap;
-use text::Number;
 use weaving::Counted;
 use words::Word;
 
-// lookup FILE ID HEADER
-pub(crate) fn lookup_file(at: usize) {
-    let i = numbers::number_at(at, 3);
-    let Number::Value(id) = i else {
-        return;
-    };
-    let h = numbers::number_at(at, 4);
-    let Number::Value(header) = h else {
-        return;
-    };
-    let mut space = files::space();
-    let all: &mut [u8] = &mut space;
-    let held = files::load_word(at, 2, all);
-    if let Held::Bytes(n) = held {
-        lookup_in(slices::bytes(all, n), id, header);
-    }
+// What is asked of a list.
+pub(crate) enum Question {
+    Rules,
+    Answer(Word),
+    Runs,
 }
 
-fn lookup_in(image: &[u8], id: Word, header: Word) {
+// Reads the list with that id out of the image, and answers.
+pub(crate) fn ask(image: &[u8], id: Word, question: Question) {
     let mut care_space = [0u64; 2048];
     let mut value_space = [0u64; 2048];
     let mut decision_space = [0u16; 1024];
     let care: &mut [u64] = &mut care_space;
     let value: &mut [u64] = &mut value_space;
     let decision: &mut [u16] = &mut decision_space;
-    let o = lists::read_list(image, id, care, value, decision);
+    let o = lists::read(image, id, care, value, decision);
     match o {
-        Outcome::Number(n) => answer(rules::lookup(
+        Outcome::Number(n) => answered(
             lists::width_of(image),
             slices::words(care, n),
             slices::words(value, n),
             slices::shorts(decision, n),
-            Wire(header),
-        )),
+            question,
+        ),
         Outcome::Refused(x) => lines::refusal_of(x, id),
     }
+}
+
+fn answered(width: u32, care: &[u64], value: &[u64], decision: &[u16], question: Question) {
+    match question {
+        Question::Rules => show_rules(width, care, value, decision),
+        Question::Answer(h) => answer(rules::lookup(width, care, value, decision, Wire(h))),
+        Question::Runs => runs(width, care, value, decision),
+    }
+}
+
+fn show_rules(width: u32, care: &[u64], value: &[u64], decision: &[u16]) {
+    let mut i = 0;
+    while i < decision.len() {
+        show_rule(width, rules::rule_at(care, value, decision, i));
+        i += 1;
+    }
+}
+
+fn show_rule(width: u32, rule: Rule) {
+    let mut space = [0u8; 128];
+    let pattern: &mut [u8] = &mut space;
+    let n = text::write_pattern(width, rule, pattern);
+    lines::say(slices::bytes(pattern, n));
+    lines::named(b" ", rule.decision as u64);
 }
 
 fn answer(l: Looked) {
@@ -61,59 +72,26 @@ fn answer(l: Looked) {
     }
 }
 
-// runs FILE ID
-pub(crate) fn runs_file(at: usize) {
-    let i = numbers::number_at(at, 3);
-    let Number::Value(id) = i else {
-        return;
-    };
-    let mut space = files::space();
-    let all: &mut [u8] = &mut space;
-    let held = files::load_word(at, 2, all);
-    if let Held::Bytes(n) = held {
-        runs_in(slices::bytes(all, n), id);
-    }
-}
-
-fn runs_in(image: &[u8], id: Word) {
-    let mut care_space = [0u64; 2048];
-    let mut value_space = [0u64; 2048];
-    let mut decision_space = [0u16; 1024];
-    let care: &mut [u64] = &mut care_space;
-    let value: &mut [u64] = &mut value_space;
-    let decision: &mut [u16] = &mut decision_space;
-    let o = lists::read_list(image, id, care, value, decision);
-    match o {
-        Outcome::Number(n) => runs_of(
-            lists::width_of(image),
-            slices::words(care, n),
-            slices::words(value, n),
-            slices::shorts(decision, n),
-        ),
-        Outcome::Refused(x) => lines::refusal_of(x, id),
-    }
-}
-
-fn runs_of(width: u32, care: &[u64], value: &[u64], decision: &[u16]) {
+fn runs(width: u32, care: &[u64], value: &[u64], decision: &[u16]) {
     let mut space = [0u16; 1024];
     let sizes: &mut [u16] = &mut space;
     let c = weaving::runs(width, care, value, decision, sizes);
     match c {
         Counted::Runs(n) => {
-            show_sizes(sizes, n);
-            lines::named(b"runs ", n as u64);
+            show_sizes(slices::shorts(sizes, n));
             show_order(width, care, value, decision);
         }
         Counted::Refused(x) => lines::refusal(x),
     }
 }
 
-fn show_sizes(sizes: &[u16], count: usize) {
-    let mut left = count;
-    while left > 0 {
-        lines::named(b"", slices::wide_at(sizes, count - left));
-        left -= 1;
+fn show_sizes(sizes: &[u16]) {
+    let mut i = 0;
+    while i < sizes.len() {
+        lines::named(b"", slices::wide_at(sizes, i));
+        i += 1;
     }
+    lines::named(b"runs ", sizes.len() as u64);
 }
 
 // The prefix bit-swap, or the first two rules that cross.

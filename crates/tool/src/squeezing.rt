@@ -1,6 +1,5 @@
 // Weaving every list of an image into a new image file. A refusal of any call is said in one line, and then no file is written.
 use crate::files;
-use crate::files::Held;
 use crate::lines;
 use crate::slices;
 use image::Listed;
@@ -9,18 +8,8 @@ use rules::Verdict;
 use weaving::Tally;
 use weaving::Woven;
 
-// weave FILE OUT
-pub(crate) fn weave_file(at: usize) {
-    let mut space = files::space();
-    let all: &mut [u8] = &mut space;
-    let held = files::load_word(at, 2, all);
-    if let Held::Bytes(n) = held {
-        weave_image(at, slices::bytes(all, n));
-    }
-}
-
-// The new image has the format of the old one.
-fn weave_image(at: usize, image: &[u8]) {
+// weave FILE OUT. The new image has the format of the old one.
+pub(crate) fn weave(at: usize, image: &[u8]) {
     let f = image::format(image);
     match f {
         Outcome::Number(n) => weave_as(at, image, byte(n)),
