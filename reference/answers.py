@@ -445,6 +445,16 @@ def write(words):
     return lambda: said(model.write, format, width, counts, ids, *list, out) + " into " + numbers_said(out)
 
 
+def tally(words):
+    image, id = words.bytes("image"), words.number("id", 65535)
+    return lambda: said(lambda: "kept %d dropped %d merged %d" % model.tally(image, id))
+
+
+def weave_image(words):
+    image, out = words.bytes("image"), words.numbers("into", 255)
+    return lambda: said(model.weave_image, image, out) + " into " + numbers_said(out)
+
+
 def compare_lists(words):
     old, old_id = words.bytes("old"), words.number("id", 65535)
     new, new_id = words.bytes("new"), words.number("id", 65535)
@@ -489,6 +499,8 @@ CALLS = {
     "body_refusal": body_refusal,
     "read": read,
     "write": write,
+    "tally": tally,
+    "weave_image": weave_image,
     "compare_lists": compare_lists,
     "compare_first": compare_first,
 }

@@ -499,6 +499,25 @@ def image(make):
     return text
 
 
+def weave_image(make):
+    """Lists that weaving makes shorter, and now and then a fault in the image."""
+    width = make.width()
+    image = image_of(format_for(make, width), width, some_lists(make, width))
+    if make.chance(25):
+        image = bad_image(make, image)
+    room = min(make.room(len(image)), MOST_BYTES)
+    return "weave_image image %s into [%d times %d]" % (numbers_said(image), room, make.pick(0, 7, 238))
+
+
+def tally(make):
+    width = make.width()
+    lists = some_lists(make, width)
+    image = image_of(format_for(make, width), width, lists)
+    if make.chance(15):
+        image = bad_image(make, image)
+    return "tally image %s id %d" % (numbers_said(image), asked_id(make, lists))
+
+
 def bad_writing(make, format, width, counts, ids, rules):
     counts, ids = counts[:], ids[:]
     fault = make.random.randrange(8)
@@ -641,6 +660,7 @@ KINDS = {
     "weaving": {"runs": runs, "weave": weave},
     "compare": {"comparison": compare},
     "image": {"images": image, "write": write},
+    "woven": {"weave_image": weave_image, "tally": tally},
     "lists": {"compare_lists": compare_lists, "compare_first": compare_first},
 }
 

@@ -645,6 +645,31 @@ def write(format, width, counts, ids, care, value, decision, out):
     return size
 
 
+def woven_list(image, entry):
+    """The rules that weaving makes of the list of a contents entry, and its three counts."""
+    care, value, decision = slices_of(body_rules(image, entry))
+    results = [0] * len(care), [0] * len(value), [0] * len(decision)
+    counts = weave(image[1], care, value, decision, *results)
+    return words_and_decisions(*results)[: counts[0]], counts
+
+
+def tally(image, id):
+    """Entries kept, rules dropped and merges made where the list with this id is woven."""
+    return woven_list(image, find(image, id))[1]
+
+
+def weave_image(image, out):
+    """The length of the image with every list woven; out is a list of bytes, of which only that image's are changed."""
+    check_image(image)
+    lists = [woven_list(image, entry)[0] for entry in entries(image)]
+    ids = [id for _, _, id in entries(image)]
+    woven = image_bytes(image[0], image[1], [len(rules) for rules in lists], ids, sum(lists, []))
+    if len(out) < len(woven):
+        raise Refused(7)
+    out[: len(woven)] = woven
+    return len(woven)
+
+
 # Two images. ------------------------------------------------------------------------------------------------------------
 
 

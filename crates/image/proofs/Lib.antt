@@ -2,6 +2,7 @@
 pub mod SeekLaws
 pub mod AskLaws
 pub mod PassedLaws
+pub mod ReadLaws
 pub mod BackLaws
 pub mod Theorems
 pub mod Unique

@@ -1,5 +1,4 @@
 -- The laws of comparing lists of images, for this crate's proofs and for the crates above it.
-pub mod ReadLaws
 pub mod FirstLaws
 pub mod CompareLaws
 pub mod Unique

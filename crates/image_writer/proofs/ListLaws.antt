@@ -6,15 +6,15 @@ use Prim.Native.Nat.{ℕ, zero, suc, _+_, _-_, _*_, _≤_, _<_}
 use native.Mathlib.Omega.{arith}
 use lib.Dec.{eqb}
 use lib.ListN.{length, getD, take, drop, length-drop, take-append-drop}
-use lib.Seq.{length-take-le, take-at, drop-drop}
+use lib.Seq.{length-take-le, drop-drop}
 use borrow.Author.Tests.{eq-eqb, ne-eqb, le-leb}
 use Rattle.words.specs.Slices.{halvesOf}
 use Rattle.words.proofs.SliceLaws.{halves-append}
 use Rattle.rules.specs.Rule.{Rule}
 use Rattle.rules.specs.Slices.{rulesOf, Lent, careOf, valueOf, decisionOf, caresOf, valuesOf, decisionsOf}
-use Rattle.rules.specs.Replies.{Reply, Gives, passed, unlessRefused}
-use Rattle.rules.specs.Checks.{lengthsCheck, roomCheck}
-use Rattle.rules.proofs.ReplyLaws.{then-next, then-second, need-yes, one-value}
+use Rattle.rules.specs.Replies.{Gives, passed}
+use Rattle.rules.specs.Checks.{lengthsCheck}
+use Rattle.rules.proofs.ReplyLaws.{then-next, need-yes}
 use Rattle.rules.proofs.CheckLaws.{room-yes}
 use Rattle.rules.proofs.SliceLaws.{rules-columns}
 use Rattle.image.specs.declared.Outcome.{Outcome}
@@ -23,9 +23,10 @@ use Rattle.image_form.specs.declared.Entry.{Entry}
 use Rattle.image_form.specs.Images.{entryWith, Named, named, listsIn, formatIn, countIn, entriesOf, listsOf}
 use Rattle.image_check.specs.Checks.{imageCheck}
 use Rattle.image.specs.Places.{placeIn, placeAt, pickPlace, placeOf, listWith}
-use Rattle.image.specs.Calls.{entryReply, idCheck, readReply, ReadOut, filled}
+use Rattle.image.specs.Calls.{entryReply, idCheck, readReply, ReadOut}
 use Rattle.image.proofs.SeekLaws.{length-entries, length-rulesIn}
 use Rattle.image.proofs.PassedLaws.{length-with}
+use Rattle.image.proofs.ReadLaws.{Held, read-held}
 use Rattle.image.proofs.Theorems.{rulesNamed, list-named}
 use Rattle.image_writer.specs.Writing.{sumOf, listsFrom}
 use Rattle.image_writer.proofs.AgainLaws.{Rising}
@@ -113,39 +114,22 @@ module _ (b : List ℕ) (k : ℕ) where
 -- ---- what is in the slices after a read that came out
 
 module _ (b : List ℕ) (id : ℕ) (c v d : List ℕ) (n : ℕ) (c′ v′ d′ : List ℕ) (o : ReadOut b id c v d (Outcome.Number n) c′ v′ d′) where
-  size-with : length (listWith b id) ≡ n
-  unfolding readReply
-  size-with =
-      length-with b id
-      ∙ one-value (then-second (roomCheck (placeOf b id .count) (length d)) _ (n ∷ [])
-      (then-second (lengthsCheck c v d) _ (n ∷ []) (then-second (idCheck b id) _ (n ∷ []) (sym (o .answer)))))
+  held : Held n (listWith b id) c′ v′ d′
+  held = read-held b id c v d (Outcome.Number n) c′ v′ d′ o n refl
 
   -- the answer is the number of rules
   pub read-size : length (rulesNamed id (listsOf b)) ≡ n
-  read-size = ap length (sym (list-named b id)) ∙ size-with
-
-  first-places : (l : List ℕ) (k : ℕ) (s s′ : List ℕ) → length l ≡ k → s′ ≡ unlessRefused (readReply b id c v d) (filled l s) s → take k s′ ≡ l
-  first-places l k s s′ e p =
-      ap (take k) (p ∙ ap (λ (u : Reply). unlessRefused u (filled l s) s) (sym (o .answer))) ∙ take-at l (drop (length l) s) k e
+  read-size = ap length (sym (list-named b id)) ∙ held .size
 
   -- the first places hold the rules of the list with that id, two entries of the care and of the value slice to a rule
   pub read-cares : take (n * 2) c′ ≡ caresOf (rulesNamed id (listsOf b))
-  read-cares =
-      let rs : List Rule = listWith b id in
-      first-places (caresOf rs) (n * 2) c c′ (length-words careOf rs ∙ ap (λ (k : ℕ). k * 2) size-with) (o .cares)
-      ∙ ap caresOf (list-named b id)
+  read-cares = held .cares ∙ ap caresOf (list-named b id)
 
   pub read-values : take (n * 2) v′ ≡ valuesOf (rulesNamed id (listsOf b))
-  read-values =
-      let rs : List Rule = listWith b id in
-      first-places (valuesOf rs) (n * 2) v v′ (length-words valueOf rs ∙ ap (λ (k : ℕ). k * 2) size-with) (o .values)
-      ∙ ap valuesOf (list-named b id)
+  read-values = held .values ∙ ap valuesOf (list-named b id)
 
   pub read-decisions : take n d′ ≡ decisionsOf (rulesNamed id (listsOf b))
-  read-decisions =
-      let rs : List Rule = listWith b id in
-      first-places (decisionsOf rs) n d d′ (length-column decisionOf rs ∙ size-with) (o .decisions)
-      ∙ ap decisionsOf (list-named b id)
+  read-decisions = held .decisions ∙ ap decisionsOf (list-named b id)
 
   pub read-rules : rulesOf (take (n * 2) c′) (take (n * 2) v′) (take n d′) ≡ rulesNamed id (listsOf b)
   read-rules = (λ j. rulesOf (read-cares j) (read-values j) (read-decisions j)) ∙ rules-columns (rulesNamed id (listsOf b))

@@ -49,6 +49,12 @@ pub(crate) fn refusal_of(x: Refusal, id: Word) {
     refusal(x);
 }
 
+// A number, and what it counts.
+pub(crate) fn counted(n: u64, what: &[u8]) {
+    number(n);
+    say(what);
+}
+
 // A name and a number to a line.
 pub(crate) fn named(name: &[u8], n: u64) {
     say(name);

@@ -2,6 +2,7 @@
 use crate::lines;
 use crate::questions;
 use crate::questions::Question;
+use crate::squeezing;
 use image::Listed;
 use image::Outcome;
 use rules::Refusal;
@@ -78,10 +79,16 @@ pub(crate) fn show(image: &[u8]) {
     }
 }
 
-// What is said of each list of an image: how many rules it has, or its rules.
+// After the lists were woven into another image.
+pub(crate) fn report(image: &[u8]) {
+    each(image, Part::Tally);
+}
+
+// What is said of each list of an image: how many rules it has, its rules, or what weaving makes of it.
 enum Part {
     Size,
     Rules,
+    Tally,
 }
 
 // Says it of one list after the other. An image has at most 16.
@@ -99,6 +106,7 @@ fn say_entry(image: &[u8], k: usize, part: Part) {
         match part {
             Part::Size => size(id as u64, rules as u64),
             Part::Rules => show_list(image, id as u64),
+            Part::Tally => squeezing::report(image, id, rules as u64),
         }
     }
 }

@@ -17,23 +17,6 @@ pub(crate) fn shorts(s: &[u16], n: usize) -> &[u16] {
     if n <= s.len() { &s[..n] } else { &s[..0] }
 }
 
-// The words from a place on.
-pub(crate) fn later_words(s: &mut [u64], from: usize) -> &mut [u64] {
-    if from <= s.len() / 2 {
-        &mut s[from * 2..]
-    } else {
-        &mut s[..0]
-    }
-}
-
-pub(crate) fn later_shorts(s: &mut [u16], from: usize) -> &mut [u16] {
-    if from <= s.len() {
-        &mut s[from..]
-    } else {
-        &mut s[..0]
-    }
-}
-
 fn wide_byte(x: u8) -> u64 {
     x as u64
 }
@@ -50,18 +33,7 @@ pub(crate) fn wide_at(s: &[u16], i: usize) -> u64 {
     if i < s.len() { wide_short(s[i]) } else { 0 }
 }
 
-// The number at a place as it stands.
-pub(crate) fn short_at(s: &[u16], i: usize) -> u16 {
-    if i < s.len() { s[i] } else { 0 }
-}
-
 pub(crate) fn put_byte(s: &mut [u8], i: usize, x: u8) {
-    if i < s.len() {
-        s[i] = x;
-    }
-}
-
-pub(crate) fn put_short(s: &mut [u16], i: usize, x: u16) {
     if i < s.len() {
         s[i] = x;
     }

@@ -1,6 +1,6 @@
 use mathlib.Core.Path.{sym, _∙_}
 use native.Mathlib.Omega.{arith}
-use Rattle.image_compare.proofs.ReadLaws.{held-rules, held-cares, held-values, held-decisions, room-cares, room-values, room-decisions, held-passes, read-refused, read-passed, read-image, read-few, read-held}
+use Rattle.image.proofs.ReadLaws.{held-rules, held-cares, held-values, held-decisions, room-cares, room-values, room-decisions, held-passes, read-refused, read-passed, read-image, read-few, read-held}
 use Rattle.image_compare.proofs.CompareLaws.{rest-refused, rest-sixteen, rest-compared}
 use borrow.Author.Needs.{needs}
 use Rattle.image_compare.proofs.lists.compare_with.Statement.{statement}

@@ -36,10 +36,10 @@ pub record Held (n : ℕ) (rs : List Rule) (c v d : List ℕ) : Type 0 where
   pub values : take (n * 2) v ≡ valuesOf rs
   pub decisions : take n d ≡ decisionsOf rs
 
-words-size : (f : Rule → ℕ) (rs : List Rule) (n : ℕ) → length rs ≡ n → length (halvesOf (map f rs)) ≡ n * 2
+pub words-size : (f : Rule → ℕ) (rs : List Rule) (n : ℕ) → length rs ≡ n → length (halvesOf (map f rs)) ≡ n * 2
 words-size f rs n e = halves-length (map f rs) ∙ ap (λ (k : ℕ). k * 2) (length-map rs f ∙ e)
 
-take-room : (n : ℕ) (c : List ℕ) → n ≡ length (take n c) → n ≤ length c
+pub take-room : (n : ℕ) (c : List ℕ) → n ≡ length (take n c) → n ≤ length c
 take-room zero c e = omega arith
 take-room (suc n) [] e = absurd (omega arith)
 take-room (suc n) (x ∷ xs) e = let r : n ≤ length xs = take-room n xs (omega arith) in omega arith
@@ -84,11 +84,11 @@ held-passes b id l n c v d p h =
 
 -- ---- what the call gives
 
-bare-id : (b : List ℕ) (id : ℕ) → Bare (idCheck b id)
+pub bare-id : (b : List ℕ) (id : ℕ) → Bare (idCheck b id)
 unfolding idCheck
 bare-id b id = bare-then (imageCheck b) _ (bare-need (placeOf b id .found) 15 0 0)
 
-id-image : (b : List ℕ) (id : ℕ) → idCheck b id ≡ passed → imageCheck b ≡ passed
+pub id-image : (b : List ℕ) (id : ℕ) → idCheck b id ≡ passed → imageCheck b ≡ passed
 unfolding idCheck
 id-image b id p = bare-first (imageCheck b) _ (bare-image b) [] p
 

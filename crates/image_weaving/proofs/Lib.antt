@@ -1,0 +1,8 @@
+-- The laws of weaving images, for this crate's proofs and for the crates above it.
+pub mod OneLaws
+pub mod WovenLaws
+pub mod NextLaws
+pub mod LoopLaws
+pub mod WriteLaws
+pub mod Unique
+pub mod Demands

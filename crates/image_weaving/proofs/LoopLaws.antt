@@ -1,0 +1,46 @@
+-- All lists of an accepted image woven, list after list.
+use mathlib.Core.Path.{_≡_, refl, _∙_, subst}
+use mathlib.Core.List.{List}
+use Prim.Native.Nat.{ℕ, _≤_}
+use native.Mathlib.Omega.{arith}
+use lib.ListN.{length}
+use Rattle.rules.specs.declared.Refusal.{Refusal}
+use Rattle.image.specs.declared.Outcome.{Outcome}
+use Rattle.image_form.specs.Images.{countIn}
+use Rattle.image_writer.specs.Writing.{sumOf, listsFrom}
+use Rattle.image_weaving.specs.Weaving.{wovenLists}
+use Rattle.image_weaving.specs.Parts.{RoomForAll, ListsWoven, WovenUpTo}
+
+-- before the first
+pub none-woven : (b ids ns cs vs ds : List ℕ) → ListsWoven b 0 0 ids ns cs vs ds
+unfolding sumOf listsFrom wovenLists
+none-woven b ids ns cs vs ds = record { fits = omega arith; sums = refl; lists = refl }
+
+module _ (b : List ℕ) (k : ℕ) (r : Outcome) (ids ns cs vs ds : List ℕ) (W : WovenUpTo b k r ids ns cs vs ds) where
+  -- it is not refused
+  pub up-not-refused : {x : Refusal} → r ≡ Outcome.Refused x → ⊥
+  up-not-refused e = subst (λ (o : Outcome). WovenUpTo b k o ids ns cs vs ds) e W
+
+  pub up-woven : (n : ℕ) → r ≡ Outcome.Number n → ListsWoven b k n ids ns cs vs ds
+  up-woven n e = subst (λ (o : Outcome). WovenUpTo b k o ids ns cs vs ds) e W
+
+-- slices that are as long as before are as ready
+pub still-ready : (b ids ns cs vs ds ids′ ns′ cs′ vs′ ds′ : List ℕ) → RoomForAll b ids ns cs vs ds → length ids′ ≡ length ids → length ns′ ≡ length ns
+    → length cs′ ≡ length cs → length vs′ ≡ length vs → length ds′ ≡ length ds → RoomForAll b ids′ ns′ cs′ vs′ ds′
+still-ready b ids ns cs vs ds ids′ ns′ cs′ vs′ ds′ R i n c v d =
+    record {
+      accepted = R .accepted;
+      bytes = R .bytes;
+      ids = i ∙ R .ids;
+      counts = n ∙ R .counts;
+      cares = c ∙ R .cares;
+      values = v ∙ R .values;
+      decisions = d ∙ R .decisions;
+    }
+
+-- after the last
+pub all-woven : (b : List ℕ) (k n lists : ℕ) (ids ns cs vs ds : List ℕ) → lists ≡ countIn b → lists ≤ k → k ≤ countIn b → ListsWoven b k n ids ns cs vs ds
+    → ListsWoven b (countIn b) n ids ns cs vs ds
+all-woven b k n lists ids ns cs vs ds e l m W =
+    let same : k ≡ countIn b = omega arith in
+    subst (λ (i : ℕ). ListsWoven b i n ids ns cs vs ds) same W

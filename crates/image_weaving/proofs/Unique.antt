@@ -1,0 +1,18 @@
+-- The promise of each public call leaves no second result: not in the answer, and not in the lent bytes.
+use mathlib.Core.Path.{_≡_, sym, _∙_}
+use mathlib.Core.List.{List}
+use Prim.Native.Nat.{ℕ}
+use Rattle.weaving.specs.declared.Woven.{Woven}
+use Rattle.weaving.specs.Calls.{wovenReply}
+use Rattle.weaving.proofs.Unique.{one-woven}
+use Rattle.image.specs.declared.Outcome.{Outcome}
+use Rattle.image.proofs.Unique.{one-outcome}
+use Rattle.image_weaving.specs.Weaving.{ImageWoven, tallyReply}
+
+-- `weave_image`
+pub weave-image-once : (bs out : List ℕ) (x y : Outcome) (out₁ out₂ : List ℕ) → ImageWoven bs out x out₁ → ImageWoven bs out y out₂ → (x ≡ y) × (out₁ ≡ out₂)
+weave-image-once bs out x y out₁ out₂ p q = (one-outcome x y (p .answer ∙ sym (q .answer)), p .bytes ∙ sym (q .bytes))
+
+-- `tally`
+pub tally-once : (bs : List ℕ) (id : ℕ) (x y : Woven) → wovenReply x ≡ tallyReply bs id → wovenReply y ≡ tallyReply bs id → x ≡ y
+tally-once bs id x y p q = one-woven x y (p ∙ sym q)

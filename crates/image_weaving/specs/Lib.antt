@@ -1,0 +1,2 @@
+pub mod Weaving
+pub mod Parts

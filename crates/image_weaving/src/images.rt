@@ -1,0 +1,129 @@
+// All lists of an image, woven one after the other and written as an image again.
+ghost use mathlib.Core.Path.{_≡_};
+ghost use Prim.Native.Nat.{_+_, _<_};
+ghost use Rattle.rules.specs.Replies.{passed};
+ghost use Rattle.image_form.specs.Images.{countIn};
+ghost use Rattle.image_check.specs.Checks.{imageCheck};
+ghost use Rattle.image_weaving.specs.Weaving.{ImageWoven};
+ghost use Rattle.image_weaving.specs.Parts.{RoomForAll, ListsWoven, WovenUpTo};
+use crate::lists::weave_list;
+use image::Outcome;
+use image::check;
+use image_form::byte_at;
+use image_form::entry_in;
+use image_writer::write;
+use rules::Verdict;
+use weaving::Woven;
+
+// Weaves list k, counted from 0, after the lists before it, whose rules end at `from`. The answer is where its own rules end.
+fn weave_next(
+    image: &[u8],
+    k: usize,
+    from: usize,
+    ids: &mut [u16],
+    counts: &mut [u16],
+    care: &mut [u64],
+    value: &mut [u64],
+    decision: &mut [u16],
+) -> Outcome
+    requires { ⌜ RoomForAll (now image) (now ids) (now counts) (now care) (now value) (now decision) × (k < countIn (now image))
+        × ListsWoven (now image) k from (now ids) (now counts) (now care) (now value) (now decision) ⌝ }
+    ensures { λ r. ⌜ WovenUpTo (now (image .entry)) (k + 1) r
+        (now (ids .exit)) (now (counts .exit)) (now (care .exit)) (now (value .exit)) (now (decision .exit)) ⌝ }
+{
+    let entry = entry_in(image, 4 + 8 * k);
+    let id = entry.id as u16;
+    let first = from * 2;
+    let w = weave_list(
+        image,
+        id,
+        &mut care[first..],
+        &mut value[first..],
+        &mut decision[from..],
+    );
+    match w {
+        Woven::Refused(x) => Outcome::Refused(x),
+        Woven::Done(t) => {
+            ids[k] = id;
+            counts[k] = t.kept as u16;
+            Outcome::Number(from + t.kept)
+        }
+    }
+}
+
+// Weaves every list of an accepted image, and answers how many rules there are then.
+fn weave_lists(
+    image: &[u8],
+    ids: &mut [u16],
+    counts: &mut [u16],
+    care: &mut [u64],
+    value: &mut [u64],
+    decision: &mut [u16],
+) -> Outcome
+    requires { ⌜ RoomForAll (now image) (now ids) (now counts) (now care) (now value) (now decision) ⌝ }
+    ensures { λ r. ⌜ WovenUpTo (now (image .entry)) (countIn (now (image .entry))) r
+        (now (ids .exit)) (now (counts .exit)) (now (care .exit)) (now (value .exit)) (now (decision .exit))
+        × RoomForAll (now (image .entry)) (now (ids .exit)) (now (counts .exit)) (now (care .exit)) (now (value .exit)) (now (decision .exit)) ⌝ }
+{
+    let lists = byte_at(image, 2);
+    let mut from: usize = 0;
+    let mut k: usize = 0;
+    while k < lists {
+        let o = weave_next(image, k, from, ids, counts, care, value, decision);
+        match o {
+            Outcome::Refused(x) => return Outcome::Refused(x),
+            Outcome::Number(n) => from = n,
+        }
+        k += 1;
+    }
+    Outcome::Number(from)
+}
+
+// Weaves and writes an accepted image. No image has more than 3,640 rules: a rule takes 18 bytes or more of its 65,536.
+fn weave_accepted(image: &[u8], out: &mut [u8]) -> Outcome
+    requires { ⌜ imageCheck (now image) ≡ passed ⌝ }
+    ensures { λ r. ⌜ ImageWoven (now (image .entry)) (now (out .entry)) r (now (out .exit)) ⌝ }
+{
+    let format = image[0];
+    let mut ids = [0u16; 16];
+    let mut counts = [0u16; 16];
+    let mut care = [0u64; 7280];
+    let mut value = [0u64; 7280];
+    let mut decision = [0u16; 3640];
+    let o = weave_lists(
+        image,
+        &mut ids,
+        &mut counts,
+        &mut care,
+        &mut value,
+        &mut decision,
+    );
+    match o {
+        Outcome::Refused(x) => Outcome::Refused(x),
+        Outcome::Number(rules) => {
+            let lists = byte_at(image, 2);
+            let halves = rules * 2;
+            write(
+                format,
+                byte_at(image, 1) as u32,
+                &ids[..lists],
+                &counts[..lists],
+                &care[..halves],
+                &value[..halves],
+                &decision[..rules],
+                out,
+            )
+        }
+    }
+}
+
+// Weaves every list of an image into `out`: an image of the same format, width and ids. The image's refusal, then 7.
+pub fn weave_image(image: &[u8], out: &mut [u8]) -> Outcome
+    ensures { λ r. ⌜ ImageWoven (now (image .entry)) (now (out .entry)) r (now (out .exit)) ⌝ }
+{
+    let v = check(image);
+    match v {
+        Verdict::Refused(x) => Outcome::Refused(x),
+        Verdict::Fine => weave_accepted(image, out),
+    }
+}
