@@ -44,60 +44,76 @@ fn lines_in(s: &[u8], from: usize, end: usize) -> u64 {
     n
 }
 
-fn say_place(path: &[u8], line: u64) {
+// A text and a line end.
+fn say_line(s: &[u8]) {
+    say(s);
+    say(b"\n");
+}
+
+// The place of a case, and what is said of it.
+fn say_of(path: &[u8], line: u64, said: &[u8]) {
     say(path);
     say(b":");
     io::print_decimal(1, line);
+    say(said);
 }
 
 // Why a case could not be read: from which word on.
 fn say_unread(path: &[u8], line: u64, s: &[u8], end: usize) {
-    say_place(path, line);
-    if end == calls::unknown() {
-        say(b": no such call: ");
+    if end == calls::UNKNOWN {
+        say_of(path, line, b": no such call: ");
         say_word(s, 0);
         return;
     }
-    let at = word_start(s, end % 1099511627776);
+    say_rest(path, line, s, word_start(s, end % 1099511627776));
+}
+
+fn say_rest(path: &[u8], line: u64, s: &[u8], at: usize) {
     if at < s.len() {
-        say(b": cannot read on from: ");
+        say_of(path, line, b": cannot read on from: ");
         say_word(s, at);
         return;
     }
-    say(b": the case ends too soon\n");
+    say_of(path, line, b": the case ends too soon\n");
 }
 
 fn say_word(s: &[u8], from: usize) {
     let at = word_start(s, from);
-    say(part(s, at, line_end(s, at)));
-    say(b"\n");
+    say_line(part(s, at, line_end(s, at)));
 }
 
 fn is_unread(n: usize) -> bool {
-    is_bad(n) && n < 2199023255552 || n == calls::unknown()
+    is_bad(n) && n < 2199023255552 || n == calls::UNKNOWN
 }
 
-// Tries one case; whether it answers as the line beside it says, or there is no such line.
-fn try_case(path: &[u8], line: u64, s: &[u8], wanted: &[u8], held: bool) -> bool {
+// What a case answers.
+fn say_answer(path: &[u8], line: u64, s: &[u8], wanted: &[u8]) {
+    say_of(path, line, b" = ");
+    calls::answered(s, wanted, show::ALOUD);
+    say(b"\n");
+}
+
+fn say_wanted(path: &[u8], line: u64, wanted: &[u8]) {
+    say_of(path, line, b": another answer is expected: ");
+    say_line(wanted);
+}
+
+// Tries one case, and answers how many failed: 0 where it answers as the line beside it says, or there is no such line, else 1.
+fn try_case(path: &[u8], line: u64, s: &[u8], wanted: &[u8], held: bool) -> u64 {
     let n = calls::answered(s, wanted, 0);
     if held && n == wanted.len() {
-        return true;
+        return 0;
     }
     if is_unread(n) {
         say_unread(path, line, s, n);
-        return false;
+        return 1;
     }
-    say_place(path, line);
-    say(b" = ");
-    calls::answered(s, wanted, show::aloud());
-    say(b"\n");
+    say_answer(path, line, s, wanted);
     if held {
-        say_place(path, line);
-        say(b": another answer is expected: ");
-        say(wanted);
-        say(b"\n");
+        say_wanted(path, line, wanted);
+        return 1;
     }
-    !held
+    0
 }
 
 // How far a file has been read: the position, the number of the line there, and how many cases there were and failed.
@@ -108,17 +124,13 @@ struct Tried {
     failed: u64,
 }
 
-fn counted(t: Tried, s: &[u8], end: usize, passed: bool) -> Tried {
+fn counted(t: Tried, s: &[u8], end: usize, failed: u64) -> Tried {
     Tried {
         at: end,
         line: std::num::wrapping_add_u64(t.line, lines_in(s, t.at, end)),
         cases: std::num::wrapping_add_u64(t.cases, 1),
-        failed: std::num::wrapping_add_u64(t.failed, failure(passed)),
+        failed: std::num::wrapping_add_u64(t.failed, failed),
     }
-}
-
-fn failure(passed: bool) -> u64 {
-    if passed { 0 } else { 1 }
 }
 
 // An empty line, or one that starts with #.
@@ -126,34 +138,37 @@ fn is_remark(s: &[u8], at: usize) -> bool {
     byte(s, at) == 10 || byte(s, at) == 35
 }
 
+// A line that is a remark is passed over.
+fn passed_over(t: Tried, end: usize) -> Tried {
+    Tried {
+        at: end,
+        line: std::num::wrapping_add_u64(t.line, 1),
+        cases: t.cases,
+        failed: t.failed,
+    }
+}
+
+// Tries the case that ends here, with the answer on the line below it.
+fn try_held(path: &[u8], s: &[u8], t: Tried, end: usize) -> Tried {
+    let beside = next(end);
+    let answer_end = line_end(s, beside);
+    let wanted = part(s, next(next(beside)), answer_end);
+    let failed = try_case(path, t.line, part(s, t.at, end), wanted, true);
+    counted(t, s, next(answer_end), failed)
+}
+
 // Passes over a remark, or tries the case that starts here.
 fn try_next(path: &[u8], s: &[u8], t: Tried) -> Tried {
-    let at = t.at;
-    let first_end = line_end(s, at);
-    if is_remark(s, at) {
-        return Tried {
-            at: next(first_end),
-            line: std::num::wrapping_add_u64(t.line, 1),
-            cases: t.cases,
-            failed: t.failed,
-        };
+    let first_end = line_end(s, t.at);
+    if is_remark(s, t.at) {
+        return passed_over(t, next(first_end));
     }
     let end = case_end(s, first_end);
-    let beside = next(end);
-    if byte(s, beside) == 61 {
-        let answer = next(next(beside));
-        let answer_end = line_end(s, beside);
-        let passed = try_case(
-            path,
-            t.line,
-            part(s, at, end),
-            part(s, answer, answer_end),
-            true,
-        );
-        return counted(t, s, next(answer_end), passed);
+    if byte(s, next(end)) == 61 {
+        return try_held(path, s, t, end);
     }
-    let passed = try_case(path, t.line, part(s, at, end), b"", false);
-    counted(t, s, beside, passed)
+    let failed = try_case(path, t.line, part(s, t.at, end), b"", false);
+    counted(t, s, next(end), failed)
 }
 
 // Tries the cases that stand in a part of a file: all of them where it is the last part, else those before its last 131,072 bytes.
@@ -190,7 +205,7 @@ fn keep(s: &mut [u8], from: usize, end: usize) -> usize {
     let mut i = 0;
     let mut at = from;
     while at < end {
-        slices::put_byte(s, i, slices::byte_at(s, at));
+        slices::put_byte(s, i, byte(s, at));
         at += 1;
         i = next(i);
     }

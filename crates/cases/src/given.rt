@@ -1,4 +1,4 @@
-// What a case hands to a call: slices of numbers, lists of rules, and the slices of a comparison's runs.
+// What a case hands to a call: slices of numbers, rules, and lists of rules.
 use crate::names::CARE;
 use crate::names::DECISION;
 use crate::names::HALF;
@@ -56,19 +56,11 @@ fn room(count: usize, more: u64, length: usize, start: usize, end: usize) -> usi
     bad(start)
 }
 
-// What follows a number of a slice: itself, the next number, or what is left of it above its lowest byte.
+// What follows a number of a slice: itself, the next number, or what is left of it above its lowest byte, which alone is lent of it.
 enum Way {
     Same,
     Up,
     Bytes,
-}
-
-fn first_of(x: Word, way: Way) -> Word {
-    match way {
-        Way::Same => x,
-        Way::Up => x,
-        Way::Bytes => bits::and(x, bits::lowest(8)),
-    }
 }
 
 fn rest_of(x: Word, way: Way) -> Word {
@@ -100,11 +92,11 @@ fn no_item(start: usize) -> Item {
 }
 
 // `12:4`: a number in so many bytes, the lowest first, which has to fit. Only a slice of bytes has it.
-fn in_bytes(s: &[u8], from: usize, colon: usize, end: usize, most: Word) -> Item {
-    let x = word_in(s, from, colon, bits::lowest(128));
+fn in_bytes(s: &[u8], from: usize, colon: usize, end: usize, bits: u32) -> Item {
+    let x = word_in(s, from, colon, 128);
     let value = x.word;
     let n = number_in(s, next(colon), end, 16);
-    if words::same(most, words::wide(255)) {
+    if bits == 8 {
         if !is_bad(x.at) && words::below(value, bits_of(n.value)) {
             return Item {
                 value,
@@ -125,19 +117,15 @@ fn bits_of(bytes: u64) -> u32 {
     0
 }
 
-// a less b, where b is no greater: b is added to a turned over, and the sum turned over.
-fn difference(a: Word, b: Word) -> Word {
-    bits::flip(words::plus(bits::flip(a), b))
-}
-
-// `2 to 9`: each number from the first to the last. No slice has room for 100,000.
-fn counted_up(s: &[u8], first: Word, at: usize, most: Word) -> Item {
+// `2 to 9`: each number from the first to the last, which less the first is how many more there are: the first is added to the last turned
+// over, and the sum turned over. No slice has room for 100,000.
+fn counted_up(s: &[u8], first: Word, at: usize, bits: u32) -> Item {
     let from = word_start(s, after(s, at, TO));
-    let last = word_in(s, from, word_end(s, from), most);
+    let last = word_in(s, from, word_end(s, from), bits);
     if words::less(last.word, first) {
         return no_item(at);
     }
-    let more = words::capped(difference(last.word, first));
+    let more = words::capped(bits::flip(words::plus(bits::flip(last.word), first)));
     if more < 100000 {
         return Item {
             value: first,
@@ -150,15 +138,15 @@ fn counted_up(s: &[u8], first: Word, at: usize, most: Word) -> Item {
 }
 
 // What stands here, where it is said once.
-fn once(s: &[u8], at: usize, end: usize, most: Word) -> Item {
+fn once(s: &[u8], at: usize, end: usize, bits: u32) -> Item {
     let colon = byte_from(s, at, end, 58);
     if colon < end {
-        return in_bytes(s, at, colon, end, most);
+        return in_bytes(s, at, colon, end, bits);
     }
-    let n = word_in(s, at, end, most);
+    let n = word_in(s, at, end, bits);
     let value = n.word;
     if is_next(s, end, TO) && !is_bad(n.at) {
-        return counted_up(s, value, end, most);
+        return counted_up(s, value, end, bits);
     }
     Item {
         value,
@@ -169,10 +157,10 @@ fn once(s: &[u8], at: usize, end: usize, most: Word) -> Item {
 }
 
 // The next numbers. `times` stands before one number alone.
-fn next_item(s: &[u8], from: usize, most: Word) -> Item {
+fn next_item(s: &[u8], from: usize, bits: u32) -> Item {
     let t = times(s, from);
     let at = word_start(s, t.at);
-    let x = once(s, at, word_end(s, at), most);
+    let x = once(s, at, word_end(s, at), bits);
     if t.value == 1 {
         return x;
     }
@@ -194,7 +182,7 @@ fn put_numbers(out: &mut [u64], from: usize, value: Word, times: u64, way: Way) 
     let mut i = from;
     let mut left = times;
     while left > 0 {
-        words::put_word(out, i, first_of(x, way));
+        words::put_word(out, i, x);
         x = rest_of(x, way);
         i = next(i);
         left -= 1;
@@ -203,8 +191,8 @@ fn put_numbers(out: &mut [u64], from: usize, value: Word, times: u64, way: Way) 
 }
 
 // Reads the next item into the places from `count` on.
-fn put_item(s: &[u8], at: usize, most: Word, out: &mut [u64], count: usize) -> Filled {
-    let x = next_item(s, at, most);
+fn put_item(s: &[u8], at: usize, bits: u32, out: &mut [u64], count: usize) -> Filled {
+    let x = next_item(s, at, bits);
     let end = room(count, x.times, out.len() / 2, at, x.at);
     if is_bad(end) {
         return Filled { count, at: end };
@@ -214,8 +202,8 @@ fn put_item(s: &[u8], at: usize, most: Word, out: &mut [u64], count: usize) -> F
     Filled { count: n, at: end }
 }
 
-// The numbers after a bracket, each `most` or less, put as words at the start of `out`, up to the other bracket or the word `half`.
-fn words_after(s: &[u8], from: usize, most: Word, out: &mut [u64]) -> Filled {
+// The numbers after a bracket, each below 2^bits, put as words at the start of `out`, up to the other bracket or the word `half`.
+fn words_after(s: &[u8], from: usize, bits: u32, out: &mut [u64]) -> Filled {
     let mut at = bracket(s, from, 91);
     let mut count = 0;
     let mut left = s.len();
@@ -227,7 +215,7 @@ fn words_after(s: &[u8], from: usize, most: Word, out: &mut [u64]) -> Filled {
         if is_closed(s, at) || is_next(s, at, HALF) {
             return Filled { count, at };
         }
-        let f = put_item(s, at, most, out, count);
+        let f = put_item(s, at, bits, out, count);
         at = f.at;
         count = f.count;
     }
@@ -237,22 +225,18 @@ fn words_after(s: &[u8], from: usize, most: Word, out: &mut [u64]) -> Filled {
     }
 }
 
-// The numbers in brackets, put as words at the start of `out`.
-fn words_to(s: &[u8], from: usize, most: Word, out: &mut [u64]) -> Filled {
-    let f = words_after(s, from, most, out);
+// The numbers in brackets, each below 2^bits, put as words at the start of `out`.
+pub fn words_to(s: &[u8], from: usize, bits: u32, out: &mut [u64]) -> Filled {
+    let f = words_after(s, from, bits, out);
     Filled {
         count: f.count,
         at: bracket(s, f.at, 93),
     }
 }
 
-pub fn words(s: &[u8], from: usize, out: &mut [u64]) -> Filled {
-    words_to(s, from, bits::lowest(128), out)
-}
-
 // A slice of words: its words, and after `half` one more number at its end. Its numbers are counted, two to a word.
-pub fn lent(s: &[u8], from: usize, out: &mut [u64]) -> Filled {
-    let f = words_after(s, from, bits::lowest(128), out);
+fn lent(s: &[u8], from: usize, out: &mut [u64]) -> Filled {
+    let f = words_after(s, from, 128, out);
     let count = std::num::wrapping_add_usize(f.count, f.count);
     if is_next(s, f.at, HALF) {
         let half = number(s, after(s, f.at, HALF), 18446744073709551615);
@@ -268,28 +252,67 @@ pub fn lent(s: &[u8], from: usize, out: &mut [u64]) -> Filled {
     }
 }
 
-// The numbers in brackets as decisions, and as bytes.
-pub fn shorts(s: &[u8], from: usize, out: &mut [u16]) -> Filled {
-    let mut space = [0u64; 8224];
-    let wide: &mut [u64] = &mut space;
-    let f = words_to(s, from, words::wide(65535), wide);
-    let end = room(0, f.count as u64, out.len(), from, f.at);
-    slices::to_shorts(wide, f.count, out);
-    Filled {
+// A slice of words that an argument hands in: the first `count` of its numbers, and the position after them.
+pub struct Numbers {
+    pub numbers: [u64; 8224],
+    pub count: usize,
+    pub at: usize,
+}
+
+pub fn read_numbers(s: &[u8], from: usize, name: usize) -> Numbers {
+    let mut numbers = [0u64; 8224];
+    let f = lent(s, after(s, from, name), &mut numbers);
+    Numbers {
+        numbers,
         count: f.count,
-        at: end,
+        at: f.at,
     }
 }
 
-pub fn bytes(s: &[u8], from: usize, out: &mut [u8]) -> Filled {
-    let mut space = [0u64; 131200];
-    let wide: &mut [u64] = &mut space;
-    let f = words_to(s, from, words::wide(255), wide);
-    let end = room(0, f.count as u64, out.len(), from, f.at);
-    slices::to_bytes(wide, f.count, out);
+// A slice of decisions, ids or counts.
+pub struct Shorts {
+    pub numbers: [u16; 4112],
+    pub count: usize,
+    pub at: usize,
+}
+
+pub fn read_shorts(s: &[u8], from: usize, name: usize) -> Shorts {
+    let mut wide = [0u64; 8224];
+    let mut numbers = [0u16; 4112];
+    let f = words_to(s, after(s, from, name), 16, &mut wide);
+    slices::to_shorts(&wide, f.count, &mut numbers);
+    Shorts {
+        numbers,
+        count: f.count,
+        at: f.at,
+    }
+}
+
+// The numbers in brackets as bytes, as many as `out` has room for.
+pub fn bytes_to(s: &[u8], from: usize, out: &mut [u8]) -> Filled {
+    let mut wide = [0u64; 131200];
+    let f = words_to(s, from, 8, &mut wide);
+    slices::to_bytes(&wide, f.count, out);
     Filled {
         count: f.count,
-        at: end,
+        at: room(0, f.count as u64, out.len(), from, f.at),
+    }
+}
+
+// A slice of bytes.
+pub struct Bytes {
+    pub bytes: [u8; 65600],
+    pub count: usize,
+    pub at: usize,
+}
+
+pub fn read_bytes(s: &[u8], from: usize, name: usize) -> Bytes {
+    let mut bytes = [0u8; 65600];
+    let f = bytes_to(s, after(s, from, name), &mut bytes);
+    Bytes {
+        bytes,
+        count: f.count,
+        at: f.at,
     }
 }
 
@@ -346,8 +369,8 @@ fn rule(s: &[u8], from: usize) -> Ruled {
     let end = word_end(s, at);
     let slash = byte_from(s, at, end, 47);
     if slash < end {
-        let care = word_in(s, at, slash, bits::lowest(128));
-        let value = word_in(s, next(slash), end, bits::lowest(128));
+        let care = word_in(s, at, slash, 128);
+        let value = word_in(s, next(slash), end, 128);
         if is_bad(care.at) {
             return no_rule(care.at);
         }
@@ -428,41 +451,60 @@ fn rules_in(
     }
 }
 
-// How many numbers the three slices of a list have, and the position after it.
-pub struct Lengths {
+// A list: its three slices, how many numbers each of them has, and the position after it.
+pub struct List {
+    pub care: [u64; 8224],
+    pub value: [u64; 8224],
+    pub decision: [u16; 4112],
     pub cares: usize,
     pub values: usize,
     pub decisions: usize,
     pub at: usize,
 }
 
-// A list: its rules in brackets, or the three slices `care`, `value` and `decision`.
-pub fn list(
-    s: &[u8],
-    at: usize,
-    care: &mut [u64],
-    value: &mut [u64],
-    decision: &mut [u16],
-) -> Lengths {
-    if is_next(s, at, CARE) {
-        let c = lent(s, after(s, at, CARE), care);
-        let v = lent(s, after(s, c.at, VALUE), value);
-        let d = shorts(s, after(s, v.at, DECISION), decision);
-        return Lengths {
-            cares: c.count,
-            values: v.count,
-            decisions: d.count,
-            at: d.at,
-        };
+// The three slices one by one: `care`, `value` and `decision`.
+fn by_slices(s: &[u8], from: usize) -> List {
+    let c = read_numbers(s, from, CARE);
+    let v = read_numbers(s, c.at, VALUE);
+    let d = read_shorts(s, v.at, DECISION);
+    let care = c.numbers;
+    let value = v.numbers;
+    let decision = d.numbers;
+    List {
+        care,
+        value,
+        decision,
+        cares: c.count,
+        values: v.count,
+        decisions: d.count,
+        at: d.at,
     }
-    let f = rules_in(s, at, care, value, decision);
+}
+
+fn by_rules(s: &[u8], from: usize) -> List {
+    let mut care = [0u64; 8224];
+    let mut value = [0u64; 8224];
+    let mut decision = [0u16; 4112];
+    let f = rules_in(s, from, &mut care, &mut value, &mut decision);
     let twice = std::num::wrapping_add_usize(f.count, f.count);
-    Lengths {
+    List {
+        care,
+        value,
+        decision,
         cares: twice,
         values: twice,
         decisions: f.count,
         at: f.at,
     }
+}
+
+// An argument that is a list: its name, and its rules in brackets or its three slices.
+pub fn read_list(s: &[u8], from: usize, name: usize) -> List {
+    let at = after(s, from, name);
+    if is_next(s, at, CARE) {
+        return by_slices(s, at);
+    }
+    by_rules(s, at)
 }
 
 // An argument that is one rule in brackets.

@@ -1,12 +1,12 @@
-// The calls on images: the crate `image`.
+// The calls on images: the crates `image`, `image_writer` and `image_weaving`.
 use crate::given;
+use crate::given::List;
 use crate::names;
 use crate::show;
 use crate::slices;
-use crate::source::after;
-use crate::source::ended;
-use crate::source::is_bad;
+use crate::source::answer_at;
 use crate::source::named;
+use crate::weaving_calls;
 use image::Listed;
 use image::Outcome;
 
@@ -29,27 +29,25 @@ fn show_listed(w: &[u8], to: usize, l: Listed) -> usize {
 
 // The calls that have an image.
 pub fn on_image(call: usize, s: &[u8], from: usize, w: &[u8], to: usize) -> usize {
-    let mut space = [0u8; 65600];
-    let all: &mut [u8] = &mut space;
-    let f = given::bytes(s, after(s, from, names::IMAGE), all);
-    let image = slices::bytes(all, f.count);
+    let b = given::read_bytes(s, from, names::IMAGE);
+    let bytes = b.bytes;
+    with_image(call, slices::bytes(&bytes, b.count), s, b.at, w, to)
+}
+
+fn with_image(call: usize, image: &[u8], s: &[u8], at: usize, w: &[u8], to: usize) -> usize {
     if call == names::ENTRY {
-        return entry(image, s, f.at, w, to);
-    }
-    if call == names::BODY {
-        return body(call, image, s, f.at, w, to);
-    }
-    if call == names::BODY_REFUSAL {
-        return body(call, image, s, f.at, w, to);
+        return entry(image, s, at, w, to);
     }
     if call == names::READ {
-        return read(image, s, f.at, w, to);
+        return read(image, s, at, w, to);
     }
-    let end = ended(s, f.at);
-    if is_bad(end) {
-        return end;
+    if call == names::WEAVE_IMAGE {
+        return weave(image, s, at, w, to);
     }
-    whole(call, image, w, to)
+    if call >= names::BODY {
+        return by_id(call, image, s, at, w, to);
+    }
+    whole(call, image, w, answer_at(s, at, to))
 }
 
 fn whole(call: usize, image: &[u8], w: &[u8], to: usize) -> usize {
@@ -68,25 +66,25 @@ fn whole(call: usize, image: &[u8], w: &[u8], to: usize) -> usize {
 // `number`: which entry, counted from 1.
 fn entry(image: &[u8], s: &[u8], from: usize, w: &[u8], to: usize) -> usize {
     let number = named(s, from, names::NUMBER, 18446744073709551615);
-    let end = ended(s, number.at);
-    if is_bad(end) {
-        return end;
-    }
-    show_listed(w, to, image::entry(image, number.value as usize))
+    show_listed(
+        w,
+        answer_at(s, number.at, to),
+        image::entry(image, number.value as usize),
+    )
 }
 
 // `id`: of which list.
-fn body(call: usize, image: &[u8], s: &[u8], from: usize, w: &[u8], to: usize) -> usize {
+fn by_id(call: usize, image: &[u8], s: &[u8], from: usize, w: &[u8], to: usize) -> usize {
     let id = named(s, from, names::ID, 65535);
-    let end = ended(s, id.at);
-    if is_bad(end) {
-        return end;
-    }
     let i = (id.value % 65536) as u16;
+    let at = answer_at(s, id.at, to);
     if call == names::BODY {
-        return show::bytes(w, to, image::body(image, i));
+        return show::bytes(w, at, image::body(image, i));
     }
-    show::verdict(w, to, image::body_refusal(image, i))
+    if call == names::TALLY {
+        return weaving_calls::show_woven(w, at, image_weaving::tally(image, i));
+    }
+    show::verdict(w, at, image::body_refusal(image, i))
 }
 
 // The width as an image says it, for patterns; 0 where it says none.
@@ -102,36 +100,33 @@ fn width_of(image: &[u8]) -> u32 {
 
 // `id`, and `into`: the list that takes the rules.
 fn read(image: &[u8], s: &[u8], from: usize, w: &[u8], to: usize) -> usize {
-    let mut care_space = [0u64; 8224];
-    let mut value_space = [0u64; 8224];
-    let mut decision_space = [0u16; 4112];
-    let all_care: &mut [u64] = &mut care_space;
-    let all_value: &mut [u64] = &mut value_space;
-    let all_decision: &mut [u16] = &mut decision_space;
     let id = named(s, from, names::ID, 65535);
-    let l = given::list(
-        s,
-        after(s, id.at, names::INTO),
-        all_care,
-        all_value,
-        all_decision,
+    let l = given::read_list(s, id.at, names::INTO);
+    let mut care = l.care;
+    let mut value = l.value;
+    let mut decision = l.decision;
+    let o = image::read(
+        image,
+        (id.value % 65536) as u16,
+        slices::numbers_mut(&mut care, l.cares),
+        slices::numbers_mut(&mut value, l.values),
+        slices::shorts_mut(&mut decision, l.decisions),
     );
-    let end = ended(s, l.at);
-    if is_bad(end) {
-        return end;
-    }
-    let care = slices::numbers_mut(all_care, l.cares);
-    let value = slices::numbers_mut(all_value, l.values);
-    let decision = slices::shorts_mut(all_decision, l.decisions);
-    let o = image::read(image, (id.value % 65536) as u16, care, value, decision);
-    let into = show::and_word(w, show_outcome(w, to, o), show::INTO);
+    let answer = show_outcome(w, answer_at(s, l.at, to), o);
     show::list(
         w,
-        show::glyph(w, into, 32),
+        show::glyph(w, answer, 32),
+        show::INTO,
         width_of(image),
-        care,
-        value,
-        decision,
+        List {
+            care,
+            value,
+            decision,
+            cares: l.cares,
+            values: l.values,
+            decisions: l.decisions,
+            at: l.at,
+        },
     )
 }
 
@@ -147,30 +142,35 @@ pub fn write(
     w: &[u8],
     to: usize,
 ) -> usize {
-    let mut id_space = [0u16; 4112];
-    let mut count_space = [0u16; 4112];
-    let mut byte_space = [0u8; 65600];
-    let ids: &mut [u16] = &mut id_space;
-    let counts: &mut [u16] = &mut count_space;
-    let all: &mut [u8] = &mut byte_space;
-    let i = given::shorts(s, after(s, at, names::IDS), ids);
-    let c = given::shorts(s, after(s, i.at, names::COUNTS), counts);
-    let f = given::bytes(s, after(s, c.at, names::INTO), all);
-    let end = ended(s, f.at);
-    if is_bad(end) {
-        return end;
-    }
-    let image = slices::bytes_mut(all, f.count);
+    let i = given::read_shorts(s, at, names::IDS);
+    let c = given::read_shorts(s, i.at, names::COUNTS);
+    let b = given::read_bytes(s, c.at, names::INTO);
+    let ids = i.numbers;
+    let counts = c.numbers;
+    let mut image = b.bytes;
     let o = image_writer::write(
         format,
         width,
-        slices::shorts(ids, i.count),
-        slices::shorts(counts, c.count),
+        slices::shorts(&ids, i.count),
+        slices::shorts(&counts, c.count),
         care,
         value,
         decision,
-        image,
+        slices::bytes_mut(&mut image, b.count),
     );
+    show_image(w, answer_at(s, b.at, to), o, slices::bytes(&image, b.count))
+}
+
+// `into`: the bytes that take the image with every list woven.
+fn weave(image: &[u8], s: &[u8], from: usize, w: &[u8], to: usize) -> usize {
+    let b = given::read_bytes(s, from, names::INTO);
+    let mut out = b.bytes;
+    let o = image_weaving::weave_image(image, slices::bytes_mut(&mut out, b.count));
+    show_image(w, answer_at(s, b.at, to), o, slices::bytes(&out, b.count))
+}
+
+// The answer of a call that makes an image, and the bytes that were lent for it.
+fn show_image(w: &[u8], to: usize, o: Outcome, bytes: &[u8]) -> usize {
     let into = show::and_word(w, show_outcome(w, to, o), show::INTO);
-    show::bytes(w, show::glyph(w, into, 32), image)
+    show::bytes(w, show::glyph(w, into, 32), bytes)
 }

@@ -64,74 +64,77 @@ pub const BODY: usize = 28;
 
 pub const BODY_REFUSAL: usize = 29;
 
-pub const READ: usize = 30;
+pub const TALLY: usize = 30;
 
-pub const COMPARE_LISTS: usize = 31;
+pub const READ: usize = 31;
 
-pub const COMPARE_FIRST: usize = 32;
+pub const WEAVE_IMAGE: usize = 32;
 
-pub const LIST: usize = 33;
+pub const COMPARE_LISTS: usize = 33;
 
-pub const OLD: usize = 34;
+pub const COMPARE_FIRST: usize = 34;
 
-pub const NEW: usize = 35;
+pub const LIST: usize = 35;
 
-pub const INTO: usize = 36;
+pub const OLD: usize = 36;
 
-pub const HEADERS: usize = 37;
+pub const NEW: usize = 37;
 
-pub const HEADER: usize = 38;
+pub const INTO: usize = 38;
 
-pub const AS: usize = 39;
+pub const HEADERS: usize = 39;
 
-pub const NUMBER: usize = 40;
+pub const HEADER: usize = 40;
 
-pub const RULE: usize = 41;
+pub const AS: usize = 41;
 
-pub const RULES: usize = 42;
+pub const NUMBER: usize = 42;
 
-pub const PLACE: usize = 43;
+pub const RULE: usize = 43;
 
-pub const SWAP: usize = 44;
+pub const RULES: usize = 44;
 
-pub const START: usize = 45;
+pub const PLACE: usize = 45;
 
-pub const IMAGE: usize = 46;
+pub const SWAP: usize = 46;
 
-pub const ID: usize = 47;
+pub const START: usize = 47;
 
-pub const IDS: usize = 48;
+pub const IMAGE: usize = 48;
 
-pub const COUNTS: usize = 49;
+pub const ID: usize = 49;
 
-pub const CARE: usize = 50;
+pub const IDS: usize = 50;
 
-pub const VALUE: usize = 51;
+pub const COUNTS: usize = 51;
 
-pub const DECISION: usize = 52;
+pub const CARE: usize = 52;
 
-pub const FIRST: usize = 53;
+pub const VALUE: usize = 53;
 
-pub const LAST: usize = 54;
+pub const DECISION: usize = 54;
 
-pub const TIMES: usize = 55;
+pub const FIRST: usize = 55;
 
-pub const TO: usize = 56;
+pub const LAST: usize = 56;
 
-pub const NONE: usize = 57;
+pub const TIMES: usize = 57;
 
-pub const HALF: usize = 58;
+pub const TO: usize = 58;
 
-// Which word this is; one that is none of them has the number 99. Most words of a case are numbers, which start with no letter.
-pub fn number_of(word: &[u8]) -> usize {
+pub const NONE: usize = 59;
+
+pub const HALF: usize = 60;
+
+// The number of a word among all words; one that is none of them has the number 99. Most words of a case are numbers, which start with
+// no letter.
+fn place_of(word: &[u8], all: &[u8]) -> usize {
     if byte(word, 0) < 97 {
         return 99;
     }
-    let all: &[u8] =
-        b"check_list check_list_as lookup lookup_number lookup_swapped prefix_swap runs weave write compare check_rule rule_at put_rule rule_covers rule_crosses covers crosses distance apply_rule apply undo invert compose check width format count entry body body_refusal read compare_lists compare_first list old new into headers header as number rule rules place swap start image id ids counts care value decision first last times to none half";
     let mut at = 0;
     let mut k = 0;
-    while k < 59 {
+    while k < 61 {
         let from = word_start(all, at);
         at = word_end(all, from);
         if check::same(part(all, from, at), word) {
@@ -140,4 +143,12 @@ pub fn number_of(word: &[u8]) -> usize {
         k += 1;
     }
     99
+}
+
+// Which word this is.
+pub fn number_of(word: &[u8]) -> usize {
+    place_of(
+        word,
+        b"check_list check_list_as lookup lookup_number lookup_swapped prefix_swap runs weave write compare check_rule rule_at put_rule rule_covers rule_crosses covers crosses distance apply_rule apply undo invert compose check width format count entry body body_refusal tally read weave_image compare_lists compare_first list old new into headers header as number rule rules place swap start image id ids counts care value decision first last times to none half",
+    )
 }

@@ -1,11 +1,11 @@
 // The calls on lists of rules and on rules: the crates `rules` and `pairs`, and the lookup of a swapped header beside the other two.
 use crate::given;
+use crate::given::List;
 use crate::names;
 use crate::show;
 use crate::slices;
 use crate::source::after;
-use crate::source::ended;
-use crate::source::is_bad;
+use crate::source::answer_at;
 use crate::source::named;
 use crate::swaps_calls;
 use rules::Looked;
@@ -26,20 +26,13 @@ pub fn on_list(
     to: usize,
 ) -> usize {
     if call == names::CHECK_LIST {
-        let end = ended(s, at);
-        if is_bad(end) {
-            return end;
-        }
-        return show::verdict(w, to, rules::check_list(width, care, value, decision));
+        let v = rules::check_list(width, care, value, decision);
+        return show::verdict(w, answer_at(s, at, to), v);
     }
     if call == names::CHECK_LIST_AS {
         let list = named(s, at, names::AS, 18446744073709551615);
-        let end = ended(s, list.at);
-        if is_bad(end) {
-            return end;
-        }
         let v = rules::check_list_as(list.value as usize, width, care, value, decision);
-        return show::verdict(w, to, v);
+        return show::verdict(w, answer_at(s, list.at, to), v);
     }
     lookups(call, s, at, width, care, value, decision, w, to)
 }
@@ -56,14 +49,19 @@ fn lookups(
     w: &[u8],
     to: usize,
 ) -> usize {
-    let mut space = [0u64; 8224];
-    let headers: &mut [u64] = &mut space;
-    let f = given::words(s, after(s, at, names::HEADERS), headers);
-    let end = ended(s, f.at);
-    if is_bad(end) {
-        return end;
-    }
-    look_up(call, width, care, value, decision, headers, f.count, w, to)
+    let mut headers = [0u64; 8224];
+    let f = given::words_to(s, after(s, at, names::HEADERS), 128, &mut headers);
+    look_up(
+        call,
+        width,
+        care,
+        value,
+        decision,
+        &headers,
+        f.count,
+        w,
+        answer_at(s, f.at, to),
+    )
 }
 
 fn looked(
@@ -123,10 +121,7 @@ pub fn on_rules(call: usize, s: &[u8], from: usize, w: &[u8], to: usize) -> usiz
     if call == names::PUT_RULE {
         return put_rule(s, from, w, to);
     }
-    if call == names::RULE_COVERS {
-        return pair(call, 0, s, from, w, to);
-    }
-    if call == names::RULE_CROSSES {
+    if call <= names::RULE_CROSSES {
         return pair(call, 0, s, from, w, to);
     }
     let width = named(s, from, names::WIDTH, 4294967295);
@@ -138,27 +133,19 @@ fn check_rule(s: &[u8], from: usize, w: &[u8], to: usize) -> usize {
     let list = named(s, width.at, names::LIST, 18446744073709551615);
     let number = named(s, list.at, names::NUMBER, 18446744073709551615);
     let r = given::one_rule(s, number.at, names::RULE);
-    let end = ended(s, r.at);
-    if is_bad(end) {
-        return end;
-    }
     let v = rules::check_rule(
         (width.value % 4294967296) as u32,
         list.value as usize,
         number.value as usize,
         r.rule,
     );
-    show::verdict(w, to, v)
+    show::verdict(w, answer_at(s, r.at, to), v)
 }
 
 // `rules`: two of them.
 fn pair(call: usize, width: u32, s: &[u8], from: usize, w: &[u8], to: usize) -> usize {
     let r = given::two_rules(s, from, names::RULES);
-    let end = ended(s, r.at);
-    if is_bad(end) {
-        return end;
-    }
-    asked(call, width, r.first, r.second, w, to)
+    asked(call, width, r.first, r.second, w, answer_at(s, r.at, to))
 }
 
 fn asked(call: usize, width: u32, a: Rule, b: Rule, w: &[u8], to: usize) -> usize {
@@ -179,58 +166,48 @@ fn asked(call: usize, width: u32, a: Rule, b: Rule, w: &[u8], to: usize) -> usiz
 
 // `list`, then `place`, counted from 0.
 fn rule_at(s: &[u8], from: usize, w: &[u8], to: usize) -> usize {
-    let mut care_space = [0u64; 8224];
-    let mut value_space = [0u64; 8224];
-    let mut decision_space = [0u16; 4112];
-    let care: &mut [u64] = &mut care_space;
-    let value: &mut [u64] = &mut value_space;
-    let decision: &mut [u16] = &mut decision_space;
-    let l = given::list(s, after(s, from, names::LIST), care, value, decision);
+    let l = given::read_list(s, from, names::LIST);
     let place = named(s, l.at, names::PLACE, 18446744073709551615);
-    let end = ended(s, place.at);
-    if is_bad(end) {
-        return end;
-    }
+    let care = l.care;
+    let value = l.value;
+    let decision = l.decision;
     let r = rules::rule_at(
-        slices::numbers(care, l.cares),
-        slices::numbers(value, l.values),
-        slices::shorts(decision, l.decisions),
+        slices::numbers(&care, l.cares),
+        slices::numbers(&value, l.values),
+        slices::shorts(&decision, l.decisions),
         place.value as usize,
     );
-    show::rule(w, to, 0, r)
+    show::rule(w, answer_at(s, place.at, to), 0, r)
 }
 
 // `list`, `place` and `rule`: the list is shown as it is then.
 fn put_rule(s: &[u8], from: usize, w: &[u8], to: usize) -> usize {
-    let mut care_space = [0u64; 8224];
-    let mut value_space = [0u64; 8224];
-    let mut decision_space = [0u16; 4112];
-    let all_care: &mut [u64] = &mut care_space;
-    let all_value: &mut [u64] = &mut value_space;
-    let all_decision: &mut [u16] = &mut decision_space;
-    let l = given::list(
-        s,
-        after(s, from, names::LIST),
-        all_care,
-        all_value,
-        all_decision,
-    );
+    let l = given::read_list(s, from, names::LIST);
     let place = named(s, l.at, names::PLACE, 18446744073709551615);
     let r = given::one_rule(s, place.at, names::RULE);
-    let end = ended(s, r.at);
-    if is_bad(end) {
-        return end;
-    }
-    let care = slices::numbers_mut(all_care, l.cares);
-    let value = slices::numbers_mut(all_value, l.values);
-    let decision = slices::shorts_mut(all_decision, l.decisions);
-    rules::put_rule(care, value, decision, place.value as usize, r.rule);
+    let mut care = l.care;
+    let mut value = l.value;
+    let mut decision = l.decision;
+    rules::put_rule(
+        slices::numbers_mut(&mut care, l.cares),
+        slices::numbers_mut(&mut value, l.values),
+        slices::shorts_mut(&mut decision, l.decisions),
+        place.value as usize,
+        r.rule,
+    );
     show::list(
         w,
-        show::glyph(w, show::word(w, to, show::LIST), 32),
+        answer_at(s, r.at, to),
+        show::LIST,
         0,
-        care,
-        value,
-        decision,
+        List {
+            care,
+            value,
+            decision,
+            cares: l.cares,
+            values: l.values,
+            decisions: l.decisions,
+            at: l.at,
+        },
     )
 }

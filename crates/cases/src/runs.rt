@@ -12,8 +12,12 @@ use crate::source::is_bad;
 use crate::source::is_next;
 use words::Word;
 
-// How many numbers the four slices have, and the position after them.
-pub struct RunLengths {
+// The four slices, how many numbers each of them has, and the position after them.
+pub struct Runs {
+    pub first: [u64; 8224],
+    pub last: [u64; 8224],
+    pub old: [u16; 4112],
+    pub new: [u16; 4112],
     pub firsts: usize,
     pub lasts: usize,
     pub olds: usize,
@@ -40,11 +44,17 @@ fn put_words(numbers: &[u64], k: usize, out: &mut [u64]) {
     }
 }
 
-fn put_shorts(numbers: &[u64], k: usize, out: &mut [u16]) {
-    let mut space = [0u64; 8224];
-    let wide: &mut [u64] = &mut space;
-    put_words(numbers, k, wide);
-    slices::to_shorts(wide, out.len(), out);
+fn words_of(numbers: &[u64], k: usize) -> [u64; 8224] {
+    let mut out = [0u64; 8224];
+    put_words(numbers, k, &mut out);
+    out
+}
+
+fn shorts_of(numbers: &[u64], k: usize) -> [u16; 4112] {
+    let wide = words_of(numbers, k);
+    let mut out = [0u16; 4112];
+    slices::to_shorts(&wide, 4112, &mut out);
+    out
 }
 
 // Whether the answers of all runs are answers that a slice can hold.
@@ -72,43 +82,58 @@ fn whole_runs(numbers: &[u64], count: usize, start: usize, end: usize) -> usize 
     bad(start)
 }
 
-// The argument `into`: runs of four numbers each in brackets, or the four slices `first`, `last`, `old` and `new`.
-pub fn runs(
-    s: &[u8],
-    from: usize,
-    first: &mut [u64],
-    last: &mut [u64],
-    old: &mut [u16],
-    new: &mut [u16],
-) -> RunLengths {
-    let at = after(s, from, INTO);
-    if is_next(s, at, FIRST) {
-        let f = given::lent(s, after(s, at, FIRST), first);
-        let l = given::lent(s, after(s, f.at, LAST), last);
-        let o = given::shorts(s, after(s, l.at, OLD), old);
-        let n = given::shorts(s, after(s, o.at, NEW), new);
-        return RunLengths {
-            firsts: f.count,
-            lasts: l.count,
-            olds: o.count,
-            news: n.count,
-            at: n.at,
-        };
+// The four slices one by one: `first`, `last`, `old` and `new`.
+fn by_slices(s: &[u8], from: usize) -> Runs {
+    let f = given::read_numbers(s, from, FIRST);
+    let l = given::read_numbers(s, f.at, LAST);
+    let o = given::read_shorts(s, l.at, OLD);
+    let n = given::read_shorts(s, o.at, NEW);
+    let first = f.numbers;
+    let last = l.numbers;
+    let old = o.numbers;
+    let new = n.numbers;
+    Runs {
+        first,
+        last,
+        old,
+        new,
+        firsts: f.count,
+        lasts: l.count,
+        olds: o.count,
+        news: n.count,
+        at: n.at,
     }
-    let mut space = [0u64; 32896];
-    let all: &mut [u64] = &mut space;
-    let f = given::words(s, at, all);
-    put_words(all, 0, first);
-    put_words(all, 1, last);
-    put_shorts(all, 2, old);
-    put_shorts(all, 3, new);
+}
+
+// Runs of four numbers each in brackets.
+fn by_numbers(s: &[u8], from: usize) -> Runs {
+    let mut numbers = [0u64; 32896];
+    let f = given::words_to(s, from, 128, &mut numbers);
+    let all: &[u64] = &numbers;
     let count = f.count / 4;
     let twice = std::num::wrapping_add_usize(count, count);
-    RunLengths {
+    let first = words_of(all, 0);
+    let last = words_of(all, 1);
+    let old = shorts_of(all, 2);
+    let new = shorts_of(all, 3);
+    Runs {
+        first,
+        last,
+        old,
+        new,
         firsts: twice,
         lasts: twice,
         olds: count,
         news: count,
-        at: whole_runs(all, f.count, at, f.at),
+        at: whole_runs(all, f.count, from, f.at),
     }
+}
+
+// The argument `into`: runs, or the four slices.
+pub fn read_runs(s: &[u8], from: usize) -> Runs {
+    let at = after(s, from, INTO);
+    if is_next(s, at, FIRST) {
+        return by_slices(s, at);
+    }
+    by_numbers(s, at)
 }

@@ -1,12 +1,14 @@
 // Answers, in the words of docs/CASES.md. An answer is held to the text `w` that stands beside its case, from a position on, and each
-// function answers the position after what it has said, or `otherwise` where the text is another. At the position `aloud` the answer is
+// function answers the position after what it has said, or `OTHERWISE` where the text is another. At the position `ALOUD` the answer is
 // written to standard output instead.
+use crate::given::List;
+use crate::runs::Runs;
 use crate::slices;
 use crate::source::byte;
+use crate::source::is_bad;
 use crate::source::next;
 use crate::source::part;
-use crate::source::word_end;
-use crate::source::word_start;
+use crate::source::word_of;
 use compare::Compared;
 use compare::Ending;
 use pairs::Holds;
@@ -72,25 +74,25 @@ pub const TIMES: usize = 24;
 pub const HALF: usize = 25;
 
 // The position at which answers are written.
-pub fn aloud() -> usize {
-    4398046511104
-}
+pub const ALOUD: usize = 4398046511104;
 
 // The position that stands for another answer than the one in the text.
-fn otherwise() -> usize {
-    2199023255552
-}
+const OTHERWISE: usize = 2199023255552;
 
+// Nothing is said at a bad position, as `OTHERWISE` is one too: it is what is answered.
 fn say(w: &[u8], at: usize, said: &[u8]) -> usize {
-    if at >= aloud() {
+    if at >= ALOUD {
         io::write_all(1, said);
+        return at;
+    }
+    if is_bad(at) {
         return at;
     }
     let end = std::num::wrapping_add_usize(at, said.len());
     if check::same(part(w, at, end), said) {
         return end;
     }
-    otherwise()
+    OTHERWISE
 }
 
 // One byte, as a space, a bracket or a comma.
@@ -102,29 +104,18 @@ pub fn glyph(w: &[u8], at: usize, b: u8) -> usize {
 pub fn word(w: &[u8], at: usize, k: usize) -> usize {
     let all: &[u8] =
         b"fine none yes no refused at finished more from kept dropped merged into list swap care value decision first last old new id rules times half";
-    let mut from = 0;
-    let mut end = 0;
-    let mut left = next(k);
-    while left > 0 {
-        from = word_start(all, end);
-        end = word_end(all, from);
-        left -= 1;
-    }
-    say(w, at, part(all, from, end))
+    say(w, at, word_of(all, k))
 }
 
 pub fn number(w: &[u8], at: usize, n: u64) -> usize {
-    let mut digits = [0u8; 20];
-    let k = io::decimal(n, &mut digits);
-    say(w, at, &digits[..k])
+    wide_number(w, at, words::wide(n))
 }
 
 // A number of up to 39 digits.
 pub fn wide_number(w: &[u8], at: usize, n: Word) -> usize {
-    let mut space = [0u8; 39];
-    let digits: &mut [u8] = &mut space;
-    let k = text::write_number(n, digits);
-    say(w, at, slices::bytes(digits, k))
+    let mut digits = [0u8; 39];
+    let k = text::write_number(n, &mut digits);
+    say(w, at, slices::bytes(&digits, k))
 }
 
 // A space, and then a word or a number.
@@ -292,26 +283,15 @@ fn slice(w: &[u8], at: usize, k: usize, s: &[u64]) -> usize {
 }
 
 pub fn shorts(w: &[u8], at: usize, k: usize, s: &[u16]) -> usize {
-    let mut space = [0u64; 8224];
-    let wide: &mut [u64] = &mut space;
-    slices::of_shorts(s, wide);
-    slice(
-        w,
-        at,
-        k,
-        slices::numbers(wide, std::num::wrapping_add_usize(s.len(), s.len())),
-    )
+    let mut wide = [0u64; 8224];
+    let n = slices::of_shorts(s, &mut wide);
+    slice(w, at, k, slices::numbers(&wide, n))
 }
 
 pub fn bytes(w: &[u8], at: usize, s: &[u8]) -> usize {
-    let mut space = [0u64; 131200];
-    let wide: &mut [u64] = &mut space;
-    slices::of_bytes(s, wide);
-    words_of(
-        w,
-        at,
-        slices::numbers(wide, std::num::wrapping_add_usize(s.len(), s.len())),
-    )
+    let mut wide = [0u64; 131200];
+    let n = slices::of_bytes(s, &mut wide);
+    words_of(w, at, slices::first_of(&wide, n))
 }
 
 fn fits(width: u32, care: Word, value: Word) -> bool {
@@ -334,10 +314,9 @@ fn fits(width: u32, care: Word, value: Word) -> bool {
 // A rule that fits the width as its pattern, another by its two words, and its decision.
 pub fn rule(w: &[u8], at: usize, width: u32, r: Rule) -> usize {
     if fits(width, r.care, r.value) {
-        let mut space = [0u8; 128];
-        let pattern: &mut [u8] = &mut space;
-        let n = text::write_pattern(width, r, pattern);
-        return and_number(w, say(w, at, slices::bytes(pattern, n)), r.decision as u64);
+        let mut pattern = [0u8; 128];
+        let n = text::write_pattern(width, r, &mut pattern);
+        return and_number(w, say(w, at, slices::bytes(&pattern, n)), r.decision as u64);
     }
     let slash = glyph(w, wide_number(w, at, r.care), 47);
     and_number(w, wide_number(w, slash, r.value), r.decision as u64)
@@ -399,8 +378,23 @@ fn rules_of(
     glyph(w, at, 93)
 }
 
-// A list: its rules, or its slices where they differ in length.
-pub fn list(
+// A list with the word before it.
+pub fn list(w: &[u8], at: usize, k: usize, width: u32, l: List) -> usize {
+    let care = l.care;
+    let value = l.value;
+    let decision = l.decision;
+    lent_list(
+        w,
+        glyph(w, word(w, at, k), 32),
+        width,
+        slices::numbers(&care, l.cares),
+        slices::numbers(&value, l.values),
+        slices::shorts(&decision, l.decisions),
+    )
+}
+
+// The slices of a list: its rules, or slice by slice where they differ in length.
+fn lent_list(
     w: &[u8],
     at: usize,
     width: u32,
@@ -457,13 +451,28 @@ fn runs_of(w: &[u8], from: usize, first: &[u64], last: &[u64], old: &[u16], new:
     glyph(w, at, 93)
 }
 
-// What the four slices of a comparison hold: runs, or the slices where they differ in length.
-pub fn runs(w: &[u8], at: usize, first: &[u64], last: &[u64], old: &[u16], new: &[u16]) -> usize {
-    let into = glyph(w, and_word(w, at, INTO), 32);
+// The runs that `into` holds after a comparison.
+pub fn runs(w: &[u8], at: usize, r: Runs) -> usize {
+    let first = r.first;
+    let last = r.last;
+    let old = r.old;
+    let new = r.new;
+    lent_runs(
+        w,
+        glyph(w, and_word(w, at, INTO), 32),
+        slices::numbers(&first, r.firsts),
+        slices::numbers(&last, r.lasts),
+        slices::shorts(&old, r.olds),
+        slices::shorts(&new, r.news),
+    )
+}
+
+// The four slices of a comparison: runs, or slice by slice where they differ in length.
+fn lent_runs(w: &[u8], at: usize, first: &[u64], last: &[u64], old: &[u16], new: &[u16]) -> usize {
     if first.len() == last.len() && first.len() == old.len() * 2 && old.len() == new.len() {
-        return runs_of(w, into, first, last, old, new);
+        return runs_of(w, at, first, last, old, new);
     }
-    let after_first = glyph(w, slice(w, into, FIRST, first), 32);
+    let after_first = glyph(w, slice(w, at, FIRST, first), 32);
     let after_last = glyph(w, slice(w, after_first, LAST, last), 32);
     let after_old = glyph(w, shorts(w, after_last, OLD, old), 32);
     shorts(w, after_old, NEW, new)

@@ -1,10 +1,18 @@
 // The slices that a case lends: each is the start of a longer one. Every function is total: a place past the end reads as 0,
 // nothing is put there, and a length past the end gives the empty slice.
-pub fn numbers(s: &[u64], n: usize) -> &[u64] {
+use crate::source::byte;
+
+pub fn first_of(s: &[u64], n: usize) -> &[u64] {
     if n <= s.len() { &s[..n] } else { &s[..0] }
 }
 
-pub fn shorts(s: &[u16], n: usize) -> &[u16] {
+pub fn numbers(space: &[u64; 8224], n: usize) -> &[u64] {
+    let s: &[u64] = space;
+    if n <= s.len() { &s[..n] } else { &s[..0] }
+}
+
+pub fn shorts(space: &[u16; 4112], n: usize) -> &[u16] {
+    let s: &[u16] = space;
     if n <= s.len() { &s[..n] } else { &s[..0] }
 }
 
@@ -44,10 +52,6 @@ pub fn short_at(s: &[u16], i: usize) -> u16 {
     if i < s.len() { s[i] } else { 0 }
 }
 
-pub fn byte_at(s: &[u8], i: usize) -> u8 {
-    if i < s.len() { s[i] } else { 0 }
-}
-
 pub fn put_number(s: &mut [u64], i: usize, x: u64) {
     if i < s.len() {
         s[i] = x;
@@ -66,7 +70,7 @@ pub fn put_byte(s: &mut [u8], i: usize, x: u8) {
     }
 }
 
-// The first `count` words as numbers of 16 bits, and as bytes.
+// The first `count` words as numbers of 16 bits, and the lowest byte of each.
 pub fn to_shorts(from: &[u64], count: usize, to: &mut [u16]) {
     let mut i = 0;
     while i < count {
@@ -79,25 +83,27 @@ pub fn to_shorts(from: &[u64], count: usize, to: &mut [u16]) {
 pub fn to_bytes(from: &[u64], count: usize, to: &mut [u8]) {
     let mut i = 0;
     while i < count {
-        let n = words::capped(words::word_at(from, i));
-        put_byte(to, i, (n % 256) as u8);
+        let x = words::word_at(from, i);
+        put_byte(to, i, (x.low % 256) as u8);
         i += 1;
     }
 }
 
-// The numbers as words.
-pub fn of_shorts(from: &[u16], to: &mut [u64]) {
+// The numbers as words, and how many numbers these have: two to a word.
+pub fn of_shorts(from: &[u16], to: &mut [u64]) -> usize {
     let mut i = 0;
     while i < from.len() {
         words::put_word(to, i, words::wide(short_at(from, i) as u64));
         i += 1;
     }
+    std::num::wrapping_add_usize(i, i)
 }
 
-pub fn of_bytes(from: &[u8], to: &mut [u64]) {
+pub fn of_bytes(from: &[u8], to: &mut [u64]) -> usize {
     let mut i = 0;
     while i < from.len() {
-        words::put_word(to, i, words::wide(byte_at(from, i) as u64));
+        words::put_word(to, i, words::wide(byte(from, i) as u64));
         i += 1;
     }
+    std::num::wrapping_add_usize(i, i)
 }

@@ -84,6 +84,19 @@ pub fn part(s: &[u8], from: usize, end: usize) -> &[u8] {
     &s[..0]
 }
 
+// The word with this number in a text.
+pub fn word_of(s: &[u8], k: usize) -> &[u8] {
+    let mut from = 0;
+    let mut end = 0;
+    let mut left = next(k);
+    while left > 0 {
+        from = word_start(s, end);
+        end = word_end(s, from);
+        left -= 1;
+    }
+    part(s, from, end)
+}
+
 // Whether the next word is the one with this number.
 pub fn is_next(s: &[u8], from: usize, name: usize) -> bool {
     let at = word_start(s, from);
@@ -113,13 +126,17 @@ pub fn is_closed(s: &[u8], from: usize) -> bool {
     byte(s, word_start(s, from)) == 93
 }
 
-// The position, where nothing is left to read.
-pub fn ended(s: &[u8], from: usize) -> usize {
+// Where the answer to a case goes that is read up to a position: to `to`, where nothing is left to read. Else a bad position, at which
+// nothing is said (`show::say`), so that it is what the case answers.
+pub fn answer_at(s: &[u8], from: usize, to: usize) -> usize {
     let at = word_start(s, from);
     if at < s.len() {
         return bad(at);
     }
-    from
+    if is_bad(from) {
+        return from;
+    }
+    to
 }
 
 // A number, and the position after it.
@@ -142,11 +159,11 @@ pub struct Given {
     pub at: usize,
 }
 
-// The number in a part of the text, which may be `most` and no larger.
-pub fn word_in(s: &[u8], from: usize, end: usize, most: Word) -> Given {
+// The number in a part of the text, which has to be below 2^bits.
+pub fn word_in(s: &[u8], from: usize, end: usize, bits: u32) -> Given {
     let n = meant(part(s, from, end));
     if let Number::Value(x) = n {
-        if !words::less(most, x) {
+        if words::below(x, bits) {
             return Given { word: x, at: end };
         }
     }
@@ -156,11 +173,16 @@ pub fn word_in(s: &[u8], from: usize, end: usize, most: Word) -> Given {
     }
 }
 
+// The same of a number which may be `most` and no larger.
 pub fn number_in(s: &[u8], from: usize, end: usize, most: u64) -> Taken {
-    let g = word_in(s, from, end, words::wide(most));
+    let g = word_in(s, from, end, 64);
+    let value = words::capped(g.word);
+    if value <= most {
+        return Taken { value, at: g.at };
+    }
     Taken {
-        value: words::capped(g.word),
-        at: g.at,
+        value: 0,
+        at: bad(from),
     }
 }
 
@@ -173,7 +195,7 @@ pub fn number(s: &[u8], from: usize, most: u64) -> Taken {
 // An argument that is a header: its name, then the number.
 pub fn header(s: &[u8], from: usize, name: usize) -> Given {
     let at = word_start(s, after(s, from, name));
-    word_in(s, at, word_end(s, at), bits::lowest(128))
+    word_in(s, at, word_end(s, at), 128)
 }
 
 // An argument that is a number: its name, then the number.

@@ -2,10 +2,8 @@
 use crate::given;
 use crate::names;
 use crate::show;
-use crate::source::after;
-use crate::source::ended;
+use crate::source::answer_at;
 use crate::source::header;
-use crate::source::is_bad;
 use crate::source::named;
 use rules::Looked;
 use rules::Wire;
@@ -26,7 +24,7 @@ struct Given {
 fn swap_in(s: &[u8], from: usize) -> Given {
     let width = named(s, from, names::SWAP, 4294967295);
     let mut places = [0u8; 128];
-    let f = given::bytes(s, width.at, &mut places);
+    let f = given::bytes_to(s, width.at, &mut places);
     Given {
         swap: Swap {
             places,
@@ -94,11 +92,8 @@ pub fn prefix_swap(
     w: &[u8],
     to: usize,
 ) -> usize {
-    let end = ended(s, at);
-    if is_bad(end) {
-        return end;
-    }
-    show_swap(w, to, prefixes::prefix_swap(width, care, value, decision))
+    let a = prefixes::prefix_swap(width, care, value, decision);
+    show_swap(w, answer_at(s, at, to), a)
 }
 
 // What the list answers to the swapped header with this number.
@@ -114,19 +109,11 @@ pub fn on_swap(call: usize, s: &[u8], from: usize, w: &[u8], to: usize) -> usize
     let g = swap_in(s, from);
     let swap = g.swap;
     if call == names::INVERT {
-        let end = ended(s, g.at);
-        if is_bad(end) {
-            return end;
-        }
-        return show_swap(w, to, swap.invert());
+        return show_swap(w, answer_at(s, g.at, to), swap.invert());
     }
     if call == names::COMPOSE {
         let second = swap_in(s, g.at);
-        let end = ended(s, second.at);
-        if is_bad(end) {
-            return end;
-        }
-        return show_swap(w, to, swap.compose(second.swap));
+        return show_swap(w, answer_at(s, second.at, to), swap.compose(second.swap));
     }
     if call == names::APPLY_RULE {
         return apply_rule(swap, s, g.at, w, to);
@@ -137,21 +124,15 @@ pub fn on_swap(call: usize, s: &[u8], from: usize, w: &[u8], to: usize) -> usize
 fn moved(call: usize, swap: Swap, s: &[u8], from: usize, w: &[u8], to: usize) -> usize {
     let h = header(s, from, names::HEADER);
     let word = h.word;
-    let end = ended(s, h.at);
-    if is_bad(end) {
-        return end;
-    }
+    let at = answer_at(s, h.at, to);
     if call == names::APPLY {
-        return show_swapped(w, to, swap.apply(Wire(word)));
+        return show_swapped(w, at, swap.apply(Wire(word)));
     }
-    undone(w, to, swap, word)
+    undone(w, at, swap, word)
 }
 
 fn apply_rule(swap: Swap, s: &[u8], from: usize, w: &[u8], to: usize) -> usize {
     let r = given::one_rule(s, from, names::RULE);
-    let end = ended(s, r.at);
-    if is_bad(end) {
-        return end;
-    }
-    show_rule(w, to, swap.width, swap.apply_rule(r.rule))
+    let m = swap.apply_rule(r.rule);
+    show_rule(w, answer_at(s, r.at, to), swap.width, m)
 }

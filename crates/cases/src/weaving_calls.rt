@@ -1,11 +1,10 @@
 // The calls that cut and weave a list: the crate `weaving`.
 use crate::given;
+use crate::given::List;
 use crate::names;
 use crate::show;
 use crate::slices;
-use crate::source::after;
-use crate::source::ended;
-use crate::source::is_bad;
+use crate::source::answer_at;
 use weaving::Counted;
 use weaving::Woven;
 
@@ -16,7 +15,7 @@ fn show_counted(w: &[u8], to: usize, c: Counted) -> usize {
     }
 }
 
-fn show_woven(w: &[u8], to: usize, woven: Woven) -> usize {
+pub fn show_woven(w: &[u8], to: usize, woven: Woven) -> usize {
     match woven {
         Woven::Done(t) => {
             let kept = show::glyph(w, show::named(w, to, show::KEPT, t.kept as u64), 32);
@@ -32,9 +31,8 @@ fn show_woven(w: &[u8], to: usize, woven: Woven) -> usize {
     }
 }
 
-// The calls that have a width and a list; `at` is the position after these.
-pub fn on_list(
-    call: usize,
+// `into`: the slice that takes the sizes. `at` is the position after the list.
+pub fn cut(
     s: &[u8],
     at: usize,
     width: u32,
@@ -44,38 +42,26 @@ pub fn on_list(
     w: &[u8],
     to: usize,
 ) -> usize {
-    if call == names::RUNS {
-        return cut(s, at, width, care, value, decision, w, to);
-    }
-    weave(s, at, width, care, value, decision, w, to)
-}
-
-// `into`: the slice that takes the sizes.
-fn cut(
-    s: &[u8],
-    at: usize,
-    width: u32,
-    care: &[u64],
-    value: &[u64],
-    decision: &[u16],
-    w: &[u8],
-    to: usize,
-) -> usize {
-    let mut space = [0u16; 4112];
-    let all: &mut [u16] = &mut space;
-    let f = given::shorts(s, after(s, at, names::INTO), all);
-    let end = ended(s, f.at);
-    if is_bad(end) {
-        return end;
-    }
-    let sizes = slices::shorts_mut(all, f.count);
-    let c = weaving::runs(width, care, value, decision, sizes);
-    let answer = show::glyph(w, show_counted(w, to, c), 32);
-    show::shorts(w, answer, show::INTO, sizes)
+    let f = given::read_shorts(s, at, names::INTO);
+    let mut sizes = f.numbers;
+    let c = weaving::runs(
+        width,
+        care,
+        value,
+        decision,
+        slices::shorts_mut(&mut sizes, f.count),
+    );
+    let answer = show_counted(w, answer_at(s, f.at, to), c);
+    show::shorts(
+        w,
+        show::glyph(w, answer, 32),
+        show::INTO,
+        slices::shorts(&sizes, f.count),
+    )
 }
 
 // `into`: the list that takes the woven rules.
-fn weave(
+pub fn weave(
     s: &[u8],
     at: usize,
     width: u32,
@@ -85,34 +71,33 @@ fn weave(
     w: &[u8],
     to: usize,
 ) -> usize {
-    let mut care_space = [0u64; 8224];
-    let mut value_space = [0u64; 8224];
-    let mut decision_space = [0u16; 4112];
-    let all_care: &mut [u64] = &mut care_space;
-    let all_value: &mut [u64] = &mut value_space;
-    let all_decision: &mut [u16] = &mut decision_space;
-    let l = given::list(
-        s,
-        after(s, at, names::INTO),
-        all_care,
-        all_value,
-        all_decision,
+    let l = given::read_list(s, at, names::INTO);
+    let mut to_care = l.care;
+    let mut to_value = l.value;
+    let mut to_decision = l.decision;
+    let woven = weaving::weave(
+        width,
+        care,
+        value,
+        decision,
+        slices::numbers_mut(&mut to_care, l.cares),
+        slices::numbers_mut(&mut to_value, l.values),
+        slices::shorts_mut(&mut to_decision, l.decisions),
     );
-    let end = ended(s, l.at);
-    if is_bad(end) {
-        return end;
-    }
-    let to_care = slices::numbers_mut(all_care, l.cares);
-    let to_value = slices::numbers_mut(all_value, l.values);
-    let to_decision = slices::shorts_mut(all_decision, l.decisions);
-    let woven = weaving::weave(width, care, value, decision, to_care, to_value, to_decision);
-    let into = show::and_word(w, show_woven(w, to, woven), show::INTO);
+    let answer = show_woven(w, answer_at(s, l.at, to), woven);
     show::list(
         w,
-        show::glyph(w, into, 32),
+        show::glyph(w, answer, 32),
+        show::INTO,
         width,
-        to_care,
-        to_value,
-        to_decision,
+        List {
+            care: to_care,
+            value: to_value,
+            decision: to_decision,
+            cares: l.cares,
+            values: l.values,
+            decisions: l.decisions,
+            at: l.at,
+        },
     )
 }

@@ -6,7 +6,7 @@ use Rattle.cases.proofs.files.keep.Statement.{statement}
 use Rattle.cases.proofs.files.keep.Tie as tie
 use Rattle.cases.proofs.files.keep.Reads as reads
 use Rattle.cases.proofs.files.keep.Lts as lts
-use Rattle.cases.proofs.slices.byte_at.Reads as byte-at-reads
+use Rattle.cases.proofs.source.byte.Reads as byte-reads
 use Rattle.cases.proofs.slices.put_byte.Reads as put-byte-reads
 use Rattle.cases.proofs.source.next.Reads as next-reads
 
@@ -19,8 +19,8 @@ abbrev μ-loop : tie.MeasureT-loop
 loop-holds : tie.Need-loop-holds Inv-loop μ-loop
 loop-holds c = search needs
 
-byte-at-requires : tie.Need-byte-at-requires Inv-loop μ-loop
-byte-at-requires c κs = search needs
+byte-requires : tie.Need-byte-requires Inv-loop μ-loop
+byte-requires c κs = search needs
 
 put-byte-requires : tie.Need-put-byte-requires Inv-loop μ-loop
 put-byte-requires c κs = search needs
@@ -50,7 +50,7 @@ keep-spec =
     Inv-loop
     μ-loop
     loop-holds
-    byte-at-requires
+    byte-requires
     put-byte-requires
     add-at
     next-requires

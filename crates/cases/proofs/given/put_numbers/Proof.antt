@@ -5,7 +5,6 @@ use Rattle.cases.proofs.given.put_numbers.Statement.{statement}
 use Rattle.cases.proofs.given.put_numbers.Tie as tie
 use Rattle.cases.proofs.given.put_numbers.Reads as reads
 use Rattle.cases.proofs.given.put_numbers.Lts as lts
-use Rattle.cases.proofs.given.first_of.Reads as first-of-reads
 use Rattle.cases.proofs.given.rest_of.Reads as rest-of-reads
 use Rattle.cases.proofs.source.next.Reads as next-reads
 use Rattle.words.proofs.put_word.Reads as put-word-reads
@@ -18,9 +17,6 @@ abbrev μ-loop : tie.MeasureT-loop
 
 loop-holds : tie.Need-loop-holds Inv-loop μ-loop
 loop-holds c = search needs
-
-first-of-requires : tie.Need-first-of-requires Inv-loop μ-loop
-first-of-requires c κs = search needs
 
 put-word-requires : tie.Need-put-word-requires Inv-loop μ-loop
 put-word-requires c κs = search needs
@@ -53,7 +49,6 @@ put-numbers-spec =
     Inv-loop
     μ-loop
     loop-holds
-    first-of-requires
     put-word-requires
     rest-of-requires
     next-requires

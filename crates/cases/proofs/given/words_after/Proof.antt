@@ -13,10 +13,10 @@ use Rattle.cases.proofs.source.is_closed.Reads as is-closed-reads
 use Rattle.cases.proofs.source.is_next.Reads as is-next-reads
 
 abbrev Inv-loop : tie.InvT-loop
-Inv-loop s from most out₀ at₀ count₀ left₀ out at count left = length out ≡ length out₀
+Inv-loop s from bits out₀ at₀ count₀ left₀ out at count left = length out ≡ length out₀
 
 abbrev μ-loop : tie.MeasureT-loop
-μ-loop s from most out₀ at₀ count₀ left₀ out at count left = left
+μ-loop s from bits out₀ at₀ count₀ left₀ out at count left = left
 
 bracket-requires : tie.Need-bracket-requires Inv-loop μ-loop
 bracket-requires c κs = search needs

@@ -19,4 +19,5 @@ returns-2 : tie.Need-returns-2
 returns-2 c = search needs
 
 pub numbers-spec : {M : Type 1} → statement M
-numbers-spec = tie.close (tie.spec slice-aggregate-result slice-aggregate-result-2 returns returns-2)
+numbers-spec =
+    tie.close (tie.spec slice-aggregate-result slice-aggregate-result-2 returns returns-2)

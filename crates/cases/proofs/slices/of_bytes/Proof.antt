@@ -6,7 +6,7 @@ use Rattle.cases.proofs.slices.of_bytes.Statement.{statement}
 use Rattle.cases.proofs.slices.of_bytes.Tie as tie
 use Rattle.cases.proofs.slices.of_bytes.Reads as reads
 use Rattle.cases.proofs.slices.of_bytes.Lts as lts
-use Rattle.cases.proofs.slices.byte_at.Reads as byte-at-reads
+use Rattle.cases.proofs.source.byte.Reads as byte-reads
 use Rattle.words.proofs.wide.Reads as wide-reads
 use Rattle.words.proofs.put_word.Reads as put-word-reads
 
@@ -19,8 +19,8 @@ abbrev μ-loop : tie.MeasureT-loop
 loop-holds : tie.Need-loop-holds Inv-loop μ-loop
 loop-holds c = search needs
 
-byte-at-requires : tie.Need-byte-at-requires Inv-loop μ-loop
-byte-at-requires c κs = search needs
+byte-requires : tie.Need-byte-requires Inv-loop μ-loop
+byte-requires c κs = search needs
 
 cast-wide : tie.Need-cast-wide Inv-loop μ-loop
 cast-wide c = search needs
@@ -40,6 +40,9 @@ loop-less c = search needs
 loop-again : tie.Need-loop-again Inv-loop μ-loop
 loop-again c = search needs
 
+wrapping-add-usize-requires : tie.Need-wrapping-add-usize-requires Inv-loop μ-loop
+wrapping-add-usize-requires c κs = search needs
+
 same-length : tie.Need-same-length Inv-loop μ-loop
 same-length c = search needs
 
@@ -53,12 +56,13 @@ of-bytes-spec =
     Inv-loop
     μ-loop
     loop-holds
-    byte-at-requires
+    byte-requires
     cast-wide
     wide-requires
     put-word-requires
     add-i
     loop-less
     loop-again
+    wrapping-add-usize-requires
     same-length
     returns)

@@ -7,7 +7,6 @@ use Rattle.cases.proofs.slices.to_bytes.Tie as tie
 use Rattle.cases.proofs.slices.to_bytes.Reads as reads
 use Rattle.cases.proofs.slices.to_bytes.Lts as lts
 use Rattle.cases.proofs.slices.put_byte.Reads as put-byte-reads
-use Rattle.words.proofs.capped.Reads as capped-reads
 use Rattle.words.proofs.word_at.Reads as word-at-reads
 
 abbrev Inv-loop : tie.InvT-loop
@@ -21,9 +20,6 @@ loop-holds c = search needs
 
 word-at-requires : tie.Need-word-at-requires Inv-loop μ-loop
 word-at-requires c κs = search needs
-
-capped-requires : tie.Need-capped-requires Inv-loop μ-loop
-capped-requires c κs = search needs
 
 cast-put-byte : tie.Need-cast-put-byte Inv-loop μ-loop
 cast-put-byte c = search needs
@@ -54,7 +50,6 @@ to-bytes-spec =
     μ-loop
     loop-holds
     word-at-requires
-    capped-requires
     cast-put-byte
     put-byte-requires
     add-i

@@ -1,22 +1,18 @@
 use borrow.Author.Needs.{needs}
-use Rattle.cases.proofs.show.word.Statement.{statement}
-use Rattle.cases.proofs.show.word.Tie as tie
-use Rattle.cases.proofs.show.word.Reads as reads
-use Rattle.cases.proofs.show.word.Lts as lts
-use Rattle.cases.proofs.show.say.Reads as say-reads
+use Rattle.cases.proofs.source.word_of.Statement.{statement}
+use Rattle.cases.proofs.source.word_of.Tie as tie
+use Rattle.cases.proofs.source.word_of.Reads as reads
+use Rattle.cases.proofs.source.word_of.Lts as lts
 use Rattle.cases.proofs.source.next.Reads as next-reads
 use Rattle.cases.proofs.source.part.Reads as part-reads
 use Rattle.cases.proofs.source.word_end.Reads as word-end-reads
 use Rattle.cases.proofs.source.word_start.Reads as word-start-reads
 
 abbrev Inv-loop : tie.InvT-loop
-Inv-loop w at k all from₀ end₀ left₀ from end left = Unit {0}
+Inv-loop s k from₀ end₀ left₀ from end left = Unit {0}
 
 abbrev μ-loop : tie.MeasureT-loop
-μ-loop w at k all from₀ end₀ left₀ from end left = left
-
-slice-aggregate-all : tie.Need-slice-aggregate-all Inv-loop μ-loop
-slice-aggregate-all c = search needs
+μ-loop s k from₀ end₀ left₀ from end left = left
 
 next-requires : tie.Need-next-requires Inv-loop μ-loop
 next-requires c κs = search needs
@@ -42,19 +38,15 @@ loop-again c = search needs
 part-requires : tie.Need-part-requires Inv-loop μ-loop
 part-requires c κs = search needs
 
-say-requires : tie.Need-say-requires Inv-loop μ-loop
-say-requires c κs = search needs
-
 returns : tie.Need-returns Inv-loop μ-loop
 returns c = search needs
 
-pub word-spec : {M : Type 1} → statement M
-word-spec =
+pub word-of-spec : {M : Type 1} → statement M
+word-of-spec =
     tie.close
     (tie.spec
     Inv-loop
     μ-loop
-    slice-aggregate-all
     next-requires
     loop-holds
     word-start-requires
@@ -63,5 +55,4 @@ word-spec =
     loop-less
     loop-again
     part-requires
-    say-requires
     returns)

@@ -1,10 +1,9 @@
 use borrow.Author.Needs.{needs}
 use Prim.Native.Nat.{_-_}
-use Rattle.cases.proofs.names.number_of.Statement.{statement}
-use Rattle.cases.proofs.names.number_of.Tie as tie
-use Rattle.cases.proofs.names.number_of.Reads as reads
-use Rattle.cases.proofs.names.number_of.Lts as lts
-use Rattle.cases.proofs.source.byte.Reads as byte-reads
+use Rattle.cases.proofs.names.place_of.Statement.{statement}
+use Rattle.cases.proofs.names.place_of.Tie as tie
+use Rattle.cases.proofs.names.place_of.Reads as reads
+use Rattle.cases.proofs.names.place_of.Lts as lts
 use Rattle.cases.proofs.source.part.Reads as part-reads
 use Rattle.cases.proofs.source.word_end.Reads as word-end-reads
 use Rattle.cases.proofs.source.word_start.Reads as word-start-reads
@@ -14,16 +13,13 @@ abbrev Inv-loop : tie.InvT-loop
 Inv-loop word all at₀ k₀ at k = Unit {0}
 
 abbrev μ-loop : tie.MeasureT-loop
-μ-loop word all at₀ k₀ at k = 59 - k
+μ-loop word all at₀ k₀ at k = 61 - k
 
 byte-requires : tie.Need-byte-requires Inv-loop μ-loop
 byte-requires c κs = search needs
 
 returns : tie.Need-returns Inv-loop μ-loop
 returns c = search needs
-
-slice-aggregate-all : tie.Need-slice-aggregate-all Inv-loop μ-loop
-slice-aggregate-all c = search needs
 
 loop-holds : tie.Need-loop-holds Inv-loop μ-loop
 loop-holds c = search needs
@@ -55,15 +51,14 @@ loop-again c = search needs
 returns-3 : tie.Need-returns-3 Inv-loop μ-loop
 returns-3 c = search needs
 
-pub number-of-spec : {M : Type 1} → statement M
-number-of-spec =
+pub place-of-spec : {M : Type 1} → statement M
+place-of-spec =
     tie.close
     (tie.spec
     Inv-loop
     μ-loop
     byte-requires
     returns
-    slice-aggregate-all
     loop-holds
     word-start-requires
     word-end-requires
