@@ -81,17 +81,15 @@ fn save(part: &[u8], out: &[u8], bytes: &[u8]) -> bool {
     false
 }
 
-// Puts ".part" after the first n bytes of a name, and answers its length.
+// Puts ".part" after the first n bytes of a name, and answers its length; 0 where there is no room for it.
 fn add_part(name: &mut [u8], n: usize) -> usize {
-    if n > 4000 {
-        return 0;
+    if n <= 4000 {
+        if n + 5 <= name.len() {
+            bytes::copy(b".part", &mut name[n..]);
+            return n + 5;
+        }
     }
-    slices::put_byte(name, n, 46);
-    slices::put_byte(name, n + 1, 112);
-    slices::put_byte(name, n + 2, 97);
-    slices::put_byte(name, n + 3, 114);
-    slices::put_byte(name, n + 4, 116);
-    n + 5
+    0
 }
 
 // Writes the bytes as the file that word i after place `at` names, whole or not at all; whether that was done. A name that is empty or too

@@ -1,5 +1,5 @@
-// Parts and places of slices. Every function is total: a place past the end reads as 0, nothing is put there, and a part
-// that would pass the end is empty.
+// Parts and places of slices. Every function is total: a place past the end reads as 0, and a part that would pass the end is
+// empty.
 pub(crate) fn bytes(s: &[u8], n: usize) -> &[u8] {
     if n <= s.len() { &s[..n] } else { &s[..0] }
 }
@@ -31,10 +31,4 @@ pub(crate) fn byte_at(s: &[u8], i: usize) -> u64 {
 
 pub(crate) fn wide_at(s: &[u16], i: usize) -> u64 {
     if i < s.len() { wide_short(s[i]) } else { 0 }
-}
-
-pub(crate) fn put_byte(s: &mut [u8], i: usize, x: u8) {
-    if i < s.len() {
-        s[i] = x;
-    }
 }
