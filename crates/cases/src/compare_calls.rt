@@ -107,17 +107,10 @@ fn compare_lists(
     show::runs(
         w,
         show::compared(w, to, c),
-        Runs {
-            first,
-            last,
-            old,
-            new,
-            firsts: r.firsts,
-            lasts: r.lasts,
-            olds: r.olds,
-            news: r.news,
-            at: r.at,
-        },
+        slices::numbers(&first, r.firsts),
+        slices::numbers(&last, r.lasts),
+        slices::shorts(&old, r.olds),
+        slices::shorts(&new, r.news),
     )
 }
 
@@ -209,17 +202,10 @@ fn compare_by_id(
     show::runs(
         w,
         show::compared(w, to, c),
-        Runs {
-            first,
-            last,
-            old,
-            new,
-            firsts: r.firsts,
-            lasts: r.lasts,
-            olds: r.olds,
-            news: r.news,
-            at: r.at,
-        },
+        slices::numbers(&first, r.firsts),
+        slices::numbers(&last, r.lasts),
+        slices::shorts(&old, r.olds),
+        slices::shorts(&new, r.news),
     )
 }
 
@@ -248,16 +234,9 @@ fn compare_first(
     show::runs(
         w,
         show::compared(w, to, c),
-        Runs {
-            first,
-            last,
-            old,
-            new,
-            firsts: r.firsts,
-            lasts: r.lasts,
-            olds: r.olds,
-            news: r.news,
-            at: r.at,
-        },
+        slices::numbers(&first, r.firsts),
+        slices::numbers(&last, r.lasts),
+        slices::shorts(&old, r.olds),
+        slices::shorts(&new, r.news),
     )
 }

@@ -2,7 +2,6 @@
 // function answers the position after what it has said, or `OTHERWISE` where the text is another. At the position `ALOUD` the answer is
 // written to standard output instead.
 use crate::given::List;
-use crate::runs::Runs;
 use crate::slices;
 use crate::source::byte;
 use crate::source::is_bad;
@@ -451,28 +450,13 @@ fn runs_of(w: &[u8], from: usize, first: &[u64], last: &[u64], old: &[u16], new:
     glyph(w, at, 93)
 }
 
-// The runs that `into` holds after a comparison.
-pub fn runs(w: &[u8], at: usize, r: Runs) -> usize {
-    let first = r.first;
-    let last = r.last;
-    let old = r.old;
-    let new = r.new;
-    lent_runs(
-        w,
-        glyph(w, and_word(w, at, INTO), 32),
-        slices::numbers(&first, r.firsts),
-        slices::numbers(&last, r.lasts),
-        slices::shorts(&old, r.olds),
-        slices::shorts(&new, r.news),
-    )
-}
-
-// The four slices of a comparison: runs, or slice by slice where they differ in length.
-fn lent_runs(w: &[u8], at: usize, first: &[u64], last: &[u64], old: &[u16], new: &[u16]) -> usize {
+// What `into` holds after a comparison: runs, or the four slices one by one where they differ in length.
+pub fn runs(w: &[u8], at: usize, first: &[u64], last: &[u64], old: &[u16], new: &[u16]) -> usize {
+    let into = glyph(w, and_word(w, at, INTO), 32);
     if first.len() == last.len() && first.len() == old.len() * 2 && old.len() == new.len() {
-        return runs_of(w, at, first, last, old, new);
+        return runs_of(w, into, first, last, old, new);
     }
-    let after_first = glyph(w, slice(w, at, FIRST, first), 32);
+    let after_first = glyph(w, slice(w, into, FIRST, first), 32);
     let after_last = glyph(w, slice(w, after_first, LAST, last), 32);
     let after_old = glyph(w, shorts(w, after_last, OLD, old), 32);
     shorts(w, after_old, NEW, new)

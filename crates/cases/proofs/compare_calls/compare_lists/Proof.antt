@@ -5,7 +5,9 @@ use Rattle.cases.proofs.compare_calls.compare_lists.Reads as reads
 use Rattle.cases.proofs.compare_calls.compare_lists.Lts as lts
 use Rattle.cases.proofs.show.compared.Reads as compared-reads
 use Rattle.cases.proofs.show.runs.Reads as runs-reads
+use Rattle.cases.proofs.slices.numbers.Reads as numbers-reads
 use Rattle.cases.proofs.slices.numbers_mut.Reads as numbers-mut-reads
+use Rattle.cases.proofs.slices.shorts.Reads as shorts-reads
 use Rattle.cases.proofs.slices.shorts_mut.Reads as shorts-mut-reads
 use Rattle.compare.proofs.compare.Reads as compare-reads
 
@@ -39,6 +41,18 @@ compare-requires c κs = search needs
 compared-requires : tie.Need-compared-requires
 compared-requires c κs = search needs
 
+numbers-requires : tie.Need-numbers-requires
+numbers-requires c κs = search needs
+
+numbers-requires-2 : tie.Need-numbers-requires-2
+numbers-requires-2 c κs = search needs
+
+shorts-requires : tie.Need-shorts-requires
+shorts-requires c κs = search needs
+
+shorts-requires-2 : tie.Need-shorts-requires-2
+shorts-requires-2 c κs = search needs
+
 runs-requires : tie.Need-runs-requires
 runs-requires c κs = search needs
 
@@ -59,5 +73,9 @@ compare-lists-spec =
     shorts-mut-requires-2
     compare-requires
     compared-requires
+    numbers-requires
+    numbers-requires-2
+    shorts-requires
+    shorts-requires-2
     runs-requires
     returns)
