@@ -11,14 +11,14 @@ use Rattle.words.proofs.SliceLaws.{halves-length}
 use Rattle.rules.specs.Rule.{Rule}
 use Rattle.rules.specs.declared.Refusal.{Refusal}
 use Rattle.rules.specs.Rules.{Valid}
-use Rattle.rules.specs.Slices.{rulesOf, careOf, valueOf, decisionOf, caresOf, valuesOf, decisionsOf}
+use Rattle.rules.specs.Slices.{rulesOf, Lent, careOf, valueOf, decisionOf, caresOf, valuesOf, decisionsOf}
 use Rattle.rules.specs.Lists.{All}
 use Rattle.rules.specs.Replies.{Reply, Gives, Refuses, passed, _then_, refusalReply, unlessRefused}
 use Rattle.rules.specs.Checks.{lengthsCheck, roomCheck}
 use Rattle.rules.specs.Calls.{checkList}
 use Rattle.rules.proofs.ReplyLaws.{then-next, then-second, gives-refuses, one-value}
 use Rattle.rules.proofs.CheckLaws.{sound-list, lengths-yes, room-yes, width-inside}
-use Rattle.rules.proofs.SliceLaws.{rules-columns}
+use Rattle.rules.proofs.SliceLaws.{rules-length, rules-columns}
 use Rattle.image.specs.declared.Outcome.{Outcome}
 use Rattle.image_form.specs.Images.{widthIn}
 use Rattle.image_check.specs.Checks.{imageCheck}
@@ -66,21 +66,28 @@ module _ (n : ℕ) (rs : List Rule) (c v d : List ℕ) (h : Held n rs c v d) whe
   pub room-decisions : n ≤ length d
   room-decisions = take-room n d held-decisions
 
--- the rules of an accepted image's list pass the checks of a list, as any list's number
+-- slices that belong together and hold the rules of an accepted image's list pass the checks of a list, as any list's number
+pub list-passes : (b : List ℕ) (id l : ℕ) (c v d : List ℕ) → imageCheck b ≡ passed → Lent c v d → rulesOf c v d ≡ listWith b id → checkList (widthIn b) l c v d ≡ passed
+list-passes b id l c v d p t e =
+    let f = list-facts b id p in
+    sound-list (widthIn b) l c v d
+    (record {
+      width = width-inside (widthIn b) (f .least) (f .most);
+      lent = t;
+      few = omega (arith, rules-length c v d t, ap length e, length-with b id, f .few);
+      valid = subst⁻¹ (All (Valid (widthIn b))) e (f .valid);
+    })
+
+-- so do the first places of slices that such a list was read into
 pub held-passes : (b : List ℕ) (id l n : ℕ) (c v d : List ℕ) → imageCheck b ≡ passed → Held n (listWith b id) c v d
     → checkList (widthIn b) l (take (n * 2) c) (take (n * 2) v) (take n d) ≡ passed
 held-passes b id l n c v d p h =
-    let f = list-facts b id p in
     let cs = held-cares n (listWith b id) c v d h in
     let vs = held-values n (listWith b id) c v d h in
     let ds = held-decisions n (listWith b id) c v d h in
-    sound-list (widthIn b) l (take (n * 2) c) (take (n * 2) v) (take n d)
-    (record {
-      width = width-inside (widthIn b) (f .least) (f .most);
-      lent = record { values = sym vs ∙ cs; decisions = ap (λ (k : ℕ). k * 2) (sym ds) ∙ cs };
-      few = omega (arith, ds, f .few, h .size, length-with b id);
-      valid = subst⁻¹ (All (Valid (widthIn b))) (held-rules n (listWith b id) c v d h) (f .valid);
-    })
+    list-passes b id l (take (n * 2) c) (take (n * 2) v) (take n d) p
+    (record { values = sym vs ∙ cs; decisions = ap (λ (k : ℕ). k * 2) (sym ds) ∙ cs })
+    (held-rules n (listWith b id) c v d h)
 
 -- ---- what the call gives
 

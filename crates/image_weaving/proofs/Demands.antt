@@ -1,6 +1,6 @@
 -- What `weave_image` and `tally` owe their user, read off their own promises: the image that is left, that it is accepted and no longer,
 -- which lists it has and how they answer; and that a refused call leaves the lent bytes as they were.
-use mathlib.Core.Path.{_≡_, refl, sym, ap, ap₂, _∙_, subst, subst⁻¹}
+use mathlib.Core.Path.{_≡_, refl, sym, ap, ap₂, _∙_, subst}
 use mathlib.Core.List.{List, [], _∷_}
 use mathlib.Core.Bool.{Bool, false, _||_}
 use Prim.Native.Nat.{ℕ, _+_, _*_, _≤_}
@@ -12,14 +12,12 @@ use lib.Seq.{take-at, drop-at}
 use Rattle.words.proofs.Tests.{split}
 use Rattle.rules.specs.declared.Refusal.{Refusal}
 use Rattle.rules.specs.Rule.{Rule}
-use Rattle.rules.specs.Rules.{Valid, answer}
-use Rattle.rules.specs.Lists.{All}
-use Rattle.rules.specs.Slices.{decisionOf, caresOf, valuesOf, decisionsOf}
+use Rattle.rules.specs.Rules.{answer}
+use Rattle.rules.specs.Slices.{caresOf, valuesOf, decisionsOf}
 use Rattle.rules.specs.Replies.{Reply, Gives, passed, need, _then_, unlessRefused}
 use Rattle.rules.specs.Checks.{headerCheck, roomCheck}
 use Rattle.rules.specs.Calls.{checkList, answered, lookedUp}
 use Rattle.rules.proofs.ReplyLaws.{then-next, then-second, one-value}
-use Rattle.rules.proofs.CheckLaws.{sound-list, width-inside}
 use Rattle.rules.proofs.SliceLaws.{rules-columns}
 use Rattle.weaving.specs.declared.Tally.{Tally}
 use Rattle.weaving.specs.declared.Woven.{Woven}
@@ -35,11 +33,12 @@ use Rattle.image_check.proofs.BareLaws.{bare-first, bare-image}
 use Rattle.image.specs.declared.Outcome.{Outcome}
 use Rattle.image.specs.Places.{placeIn, placeOf, listWith}
 use Rattle.image.specs.Calls.{idCheck, filled}
-use Rattle.image.proofs.PassedLaws.{length-with, list-facts}
+use Rattle.image.proofs.PassedLaws.{list-facts}
+use Rattle.image.proofs.ReadLaws.{list-passes}
 use Rattle.image.proofs.BackLaws.{AreBytes}
 use Rattle.image.proofs.Theorems.{rulesNamed, list-named}
 use Rattle.image_writer.proofs.AgainLaws.{Carried, length-bytesOf, carried-passes, carried-back}
-use Rattle.image_writer.proofs.CarryLaws.{image-carried, ids-fit, length-column}
+use Rattle.image_writer.proofs.CarryLaws.{image-carried, ids-fit}
 use Rattle.image_writer.proofs.ListLaws.{columns-lent}
 use Rattle.image_weaving.specs.Weaving.{wovenLists, wovenBytes, weaveImageReply, ImageWoven, tallyReply}
 use Rattle.image_weaving.proofs.WovenLaws.{length-woven, woven-fewer, woven-carried}
@@ -80,15 +79,8 @@ woven-ids w id (l ∷ ls) = ap (λ (t : Bool). eqb (l .id) id || t) (woven-ids w
 columns-pass : (b : List ℕ) (id : ℕ) → imageCheck b ≡ passed
     → checkList (widthIn b) 1 (caresOf (listWith b id)) (valuesOf (listWith b id)) (decisionsOf (listWith b id)) ≡ passed
 columns-pass b id f =
-    let k = list-facts b id f in
     let rs : List Rule = listWith b id in
-    sound-list (widthIn b) 1 (caresOf rs) (valuesOf rs) (decisionsOf rs)
-    (record {
-      width = width-inside (widthIn b) (k .least) (k .most);
-      lent = columns-lent rs;
-      few = omega (arith, length-column decisionOf rs, length-with b id, k .few);
-      valid = subst⁻¹ (All (Valid (widthIn b))) (rules-columns rs) (k .valid);
-    })
+    list-passes b id 1 (caresOf rs) (valuesOf rs) (decisionsOf rs) f (columns-lent rs) (rules-columns rs)
 
 -- what looking a header up in such a list comes to
 looked : (w : ℕ) (rs : List Rule) (h : ℕ) → checkList w 1 (caresOf rs) (valuesOf rs) (decisionsOf rs) ≡ passed
