@@ -113,8 +113,7 @@ fn steady(
         (num (cube .care)) (num (cube .value)) a) ⌝ }
 {
     let n = decision.len();
-    let words = (n + 63) / 64;
-    let s = next(live, before_all(live), 0, n, words);
+    let s = next(live, before_all(live), 0, n);
     if only(care, value, decision, live, miss, s, a, cube) {
         return true;
     }
@@ -197,10 +196,9 @@ fn loose(care: &[u64], value: &[u64], live: &[u64; 17], h: Word, top: Word) -> W
     ensures { λ r. ⌜ Loose (wordsOf (now (care .entry))) (wordsOf (now (value .entry))) (now (live .entry)) (num h) (length (wordsOf (now (care .entry)))) (num r) ⌝ }
 {
     let n = care.len() / 2;
-    let words = (n + 63) / 64;
     let all = lowest(128);
     let mut places = Word { low: 0, high: 0 };
-    let mut s = next(live, before_all(live), 0, n, words);
+    let mut s = next(live, before_all(live), 0, n);
     while s.at < n {
         let i = s.at;
         let open = without(all, read(care, i));
@@ -208,7 +206,7 @@ fn loose(care: &[u64], value: &[u64], live: &[u64; 17], h: Word, top: Word) -> W
         if !is_zero(and(places, top)) {
             return all;
         }
-        s = next(live, s, i + 1, n, words);
+        s = next(live, s, i + 1, n);
     }
     places
 }

@@ -27,14 +27,11 @@ use Rattle.words.proofs.is_zero.Reads as is-zero-reads
 use Rattle.bits.proofs.lowest.Reads as lowest-reads
 
 abbrev Inv-loop : tie.InvT-loop
-Inv-loop care value live h top n words all places₀ s₀ places s = (s .at ≤ length (wordsOf care)) × Loose (wordsOf care) (wordsOf value) live (num h) (s .at) (num places)
+Inv-loop care value live h top n all places₀ s₀ places s = (s .at ≤ length (wordsOf care)) × Loose (wordsOf care) (wordsOf value) live (num h) (s .at) (num places)
     × (s .at < length (wordsOf care) → Pending live (s .word) (s .left) (s .rest) (s .at + 1))
 
 abbrev μ-loop : tie.MeasureT-loop
-μ-loop care value live h top n words all places₀ s₀ places s = length (wordsOf care) - s .at
-
-add-words : tie.Need-add-words Inv-loop μ-loop
-add-words c = search needs
+μ-loop care value live h top n all places₀ s₀ places s = length (wordsOf care) - s .at
 
 lowest-requires : tie.Need-lowest-requires Inv-loop μ-loop
 lowest-requires c κs = search needs
@@ -43,7 +40,7 @@ start-requires : tie.Need-start-requires Inv-loop μ-loop
 start-requires c κs = search needs
 
 next-requires : tie.Need-next-requires Inv-loop μ-loop
-next-requires c κs = (c .start .ensures, omega arith, omega arith, omega (arith, c .before .before .before .before .pre .0, words-length (c .before .before .before .before .args .care .now)))
+next-requires c κs = (c .start .ensures, omega arith, omega (arith, c .before .before .before .before .pre .0, words-length (c .before .before .before .before .args .care .now)))
 
 loop-holds : tie.Need-loop-holds Inv-loop μ-loop
 loop-holds c = let E = next-in (sym (words-length (c .before .before .before .before .before .args .care .now))) (c .next .ensures) in (E .0 .few, loose-skip _ _ _ _ 0 _ _ (E .0 .after) (E .0 .none) (loose-none _ _ _ _ _ (holds halves-zero)), E .1)
@@ -79,7 +76,7 @@ add-next : tie.Need-add-next Inv-loop μ-loop
 add-next c = omega (arith, c .before .before .before .before .before .before .before .before .before .if1 .taken, c .before .before .before .before .before .before .before .before .before .before .before .before .before .before .before .before .before .pre .0, words-length (c .before .before .before .before .before .before .before .before .before .before .before .before .before .before .before .before .before .args .care .now))
 
 next-requires-2 : tie.Need-next-requires-2 Inv-loop μ-loop
-next-requires-2 c κs = let l = c .before .before .before .before .before .before .before .before .before .if1 .taken in (c .before .before .before .before .before .before .before .before .before .before .before .loop .inv .2 (omega (arith, words-length (c .before .before .before .before .before .before .before .before .before .before .before .before .before .before .before .before .before .args .care .now))), omega arith, omega arith, omega (arith, c .before .before .before .before .before .before .before .before .before .before .before .before .before .before .before .before .before .pre .0, words-length (c .before .before .before .before .before .before .before .before .before .before .before .before .before .before .before .before .before .args .care .now)))
+next-requires-2 c κs = let l = c .before .before .before .before .before .before .before .before .before .if1 .taken in (c .before .before .before .before .before .before .before .before .before .before .before .loop .inv .2 (omega (arith, words-length (c .before .before .before .before .before .before .before .before .before .before .before .before .before .before .before .before .before .args .care .now))), omega arith, omega (arith, c .before .before .before .before .before .before .before .before .before .before .before .before .before .before .before .before .before .pre .0, words-length (c .before .before .before .before .before .before .before .before .before .before .before .before .before .before .before .before .before .args .care .now)))
 
 loop-less : tie.Need-loop-less Inv-loop μ-loop
 loop-less c = let l = c .before .before .before .before .before .before .before .before .before .before .if1 .taken in omega (arith, c .next2 .ensures .0 .after, words-length (c .before .before .before .before .before .before .before .before .before .before .before .before .before .before .before .before .before .before .args .care .now))
@@ -101,7 +98,6 @@ loose-spec =
     (tie.spec
     Inv-loop
     μ-loop
-    add-words
     lowest-requires
     start-requires
     next-requires
