@@ -71,15 +71,11 @@ fn compare_images(old: &[u8], new: &[u8], named: bool, id: Word, start: Word) {
 
 // A refusal of a comparison: where a list is not there, which and in which image.
 fn refusal_by_id(x: Refusal, old: &[u8], id: Word) {
-    if x.number != 15 {
-        lines::refusal(x);
-        return;
-    }
     if lists::has(old, id) {
-        lines::no_list(id, b" in the new image");
-        return;
+        lines::refusal_of(x, id, b" in the new image\n");
+    } else {
+        lines::refusal_of(x, id, b" in the old image\n");
     }
-    lines::no_list(id, b" in the old image");
 }
 
 // Writes the lines. An id above 65,535 is that of no list.

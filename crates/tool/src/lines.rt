@@ -7,66 +7,75 @@ pub(crate) fn say(s: &[u8]) {
     io::write_all(1, s);
 }
 
-pub(crate) fn number(n: u64) {
-    io::print_decimal(1, n);
+// A space, or the end of a line: it is handed over as a number, which is less for the prover to follow than a text that is lent.
+pub(crate) fn byte(b: u8) {
+    io::write_all(1, &[b]);
+}
+
+pub(crate) fn number(n: usize) {
+    io::print_decimal(1, n as u64);
 }
 
 // A number of up to 39 digits.
 fn word(n: Word) {
-    let mut space = [0u8; 39];
-    let digits: &mut [u8] = &mut space;
-    let count = text::write_number(n, digits);
-    say(slices::bytes(digits, count));
+    let mut digits = [0u8; 39];
+    let count = text::write_number(n, &mut digits);
+    say(slices::bytes(&digits, count));
+}
+
+// A number, to the end of the line.
+pub(crate) fn last(n: usize) {
+    number(n);
+    byte(b'\n');
+}
+
+// A number, and what it counts.
+pub(crate) fn counted(n: usize, what: &[u8]) {
+    number(n);
+    say(what);
+}
+
+// A name and a number, to the end of the line.
+pub(crate) fn named(name: &[u8], n: usize) {
+    say(name);
+    last(n);
+}
+
+// A place: a list and a rule, to the end of the line.
+pub(crate) fn place(before: &[u8], list: usize, rule: usize) {
+    say(before);
+    number(list);
+    byte(b' ');
+    last(rule);
 }
 
 // A refusal, with its place where it has one: a list, and a rule or 0.
 pub(crate) fn refusal(x: Refusal) {
     say(b"refused ");
-    number(x.number as u64);
+    number(x.number);
     if x.list > 0 {
-        say(b" at ");
-        number(x.list as u64);
-        say(b" ");
-        number(x.rule as u64);
+        place(b" at ", x.list, x.rule);
+    } else {
+        byte(b'\n');
     }
-    say(b"\n");
 }
 
-// Refusal 15: no list has the id that was asked for, and of two images in which.
-pub(crate) fn no_list(id: Word, place: &[u8]) {
-    say(b"refused 15: no list ");
-    word(id);
-    say(place);
-    say(b"\n");
-}
-
-// A refusal of a question about the list with that id.
-pub(crate) fn refusal_of(x: Refusal, id: Word) {
+// A refusal of what was asked of the list with that id. Where no list has the id, the line says which, and goes on with its own end.
+pub(crate) fn refusal_of(x: Refusal, id: Word, end: &[u8]) {
     if x.number == 15 {
-        no_list(id, b"");
-        return;
+        say(b"refused 15: no list ");
+        word(id);
+        say(end);
+    } else {
+        refusal(x);
     }
-    refusal(x);
-}
-
-// A number, and what it counts.
-pub(crate) fn counted(n: u64, what: &[u8]) {
-    number(n);
-    say(what);
-}
-
-// A name and a number to a line.
-pub(crate) fn named(name: &[u8], n: u64) {
-    say(name);
-    number(n);
-    say(b"\n");
 }
 
 // What went wrong, and with which word of the command line.
 pub(crate) fn trouble(what: &[u8], word: &[u8]) {
     say(what);
     say(word);
-    say(b"\n");
+    byte(b'\n');
 }
 
 pub(crate) fn usage() {

@@ -65,8 +65,8 @@ pub(crate) fn check(image: &[u8]) {
 
 fn accepted(image: &[u8]) {
     lines::say(b"accepted\n");
-    lines::named(b"format ", image_form::byte_at(image, 0) as u64);
-    lines::named(b"width ", image_form::byte_at(image, 1) as u64);
+    lines::named(b"format ", image_form::byte_at(image, 0));
+    lines::named(b"width ", image_form::byte_at(image, 1));
     each(image, Part::Size);
 }
 
@@ -104,20 +104,20 @@ fn say_entry(image: &[u8], k: usize, part: Part) {
     let e = image::entry(image, k);
     if let Listed::List { id, rules } = e {
         match part {
-            Part::Size => size(id as u64, rules as u64),
-            Part::Rules => show_list(image, id as u64),
-            Part::Tally => squeezing::report(image, id, rules as u64),
+            Part::Size => size(id, rules),
+            Part::Rules => show_list(image, id),
+            Part::Tally => squeezing::report(image, id, rules),
         }
     }
 }
 
-fn size(id: u64, rules: u64) {
+fn size(id: u16, rules: usize) {
     lines::say(b"list ");
-    lines::number(id);
+    lines::number(id as usize);
     lines::named(b" rules ", rules);
 }
 
-fn show_list(image: &[u8], id: u64) {
-    lines::named(b"list ", id);
-    questions::ask(image, words::wide(id), Question::Rules);
+fn show_list(image: &[u8], id: u16) {
+    lines::named(b"list ", id as usize);
+    questions::ask(image, words::wide(id as u64), Question::Rules);
 }

@@ -36,7 +36,7 @@ pub(crate) fn ask(image: &[u8], id: Word, question: Question) {
             slices::shorts(decision, n),
             question,
         ),
-        Outcome::Refused(x) => lines::refusal_of(x, id),
+        Outcome::Refused(x) => lines::refusal_of(x, id, b"\n"),
     }
 }
 
@@ -61,12 +61,13 @@ fn show_rule(width: u32, rule: Rule) {
     let pattern: &mut [u8] = &mut space;
     let n = text::write_pattern(width, rule, pattern);
     lines::say(slices::bytes(pattern, n));
-    lines::named(b" ", rule.decision as u64);
+    lines::byte(b' ');
+    lines::last(rule.decision as usize);
 }
 
 fn answer(l: Looked) {
     match l {
-        Looked::Decision(d) => lines::named(b"", d as u64),
+        Looked::Decision(d) => lines::last(d as usize),
         Looked::Miss => lines::say(b"none\n"),
         Looked::Refused(x) => lines::refusal(x),
     }
@@ -88,10 +89,10 @@ fn runs(width: u32, care: &[u64], value: &[u64], decision: &[u16]) {
 fn show_sizes(sizes: &[u16]) {
     let mut i = 0;
     while i < sizes.len() {
-        lines::named(b"", slices::wide_at(sizes, i));
+        lines::last(sizes[i] as usize);
         i += 1;
     }
-    lines::named(b"runs ", sizes.len() as u64);
+    lines::named(b"runs ", sizes.len());
 }
 
 // The prefix bit-swap, or the first two rules that cross.
@@ -107,9 +108,7 @@ fn show_order(width: u32, care: &[u64], value: &[u64], decision: &[u16]) {
 
 fn crossing(x: Refusal) {
     if x.number == 8 {
-        lines::say(b"crossing ");
-        lines::number(x.list as u64);
-        lines::named(b" ", x.rule as u64);
+        lines::place(b"crossing ", x.list, x.rule);
     } else {
         lines::refusal(x);
     }
@@ -118,15 +117,15 @@ fn crossing(x: Refusal) {
 fn show_swap(swap: Swap) {
     lines::say(b"prefix swap");
     let places = swap.places;
-    show_places(&places, swap.width as usize);
-    lines::say(b"\n");
+    show_places(slices::bytes(&places, swap.width as usize));
+    lines::byte(b'\n');
 }
 
-fn show_places(places: &[u8], count: usize) {
-    let mut left = count;
-    while left > 0 {
-        lines::say(b" ");
-        lines::number(slices::byte_at(places, count - left));
-        left -= 1;
+fn show_places(places: &[u8]) {
+    let mut i = 0;
+    while i < places.len() {
+        lines::byte(b' ');
+        lines::number(places[i] as usize);
+        i += 1;
     }
 }

@@ -26,19 +26,19 @@ fn save(at: usize, image: &[u8], woven: &[u8]) {
 }
 
 // What became of a list with so many rules.
-pub(crate) fn report(image: &[u8], id: u16, rules: u64) {
+pub(crate) fn report(image: &[u8], id: u16, rules: usize) {
     let w = image_weaving::tally(image, id);
     match w {
-        Woven::Done(t) => say_tally(id as u64, rules, t),
+        Woven::Done(t) => say_tally(id as usize, rules, t),
         Woven::Refused(x) => lines::refusal(x),
     }
 }
 
-fn say_tally(id: u64, rules: u64, tally: Tally) {
+fn say_tally(id: usize, rules: usize, tally: Tally) {
     lines::say(b"list ");
     lines::counted(id, b": ");
     lines::counted(rules, b" rules, ");
-    lines::counted(tally.kept as u64, b" kept, ");
-    lines::counted(tally.dropped as u64, b" dropped, ");
-    lines::counted(tally.merged as u64, b" merged\n");
+    lines::counted(tally.kept, b" kept, ");
+    lines::counted(tally.dropped, b" dropped, ");
+    lines::counted(tally.merged, b" merged\n");
 }

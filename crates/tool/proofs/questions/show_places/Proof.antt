@@ -1,39 +1,37 @@
+use Prim.Native.Nat.{_≤_, _-_}
+use lib.ListN.{length}
+use native.Mathlib.Omega.{arith}
 use borrow.Author.Needs.{needs}
-use Prim.Native.Nat.{_≤_}
 use Rattle.tool.proofs.questions.show_places.Statement.{statement}
 use Rattle.tool.proofs.questions.show_places.Tie as tie
 use Rattle.tool.proofs.questions.show_places.Reads as reads
 use Rattle.tool.proofs.questions.show_places.Lts as lts
+use Rattle.tool.proofs.lines.byte.Reads as byte-reads
 use Rattle.tool.proofs.lines.number.Reads as number-reads
-use Rattle.tool.proofs.lines.say.Reads as say-reads
-use Rattle.tool.proofs.slices.byte_at.Reads as byte-at-reads
 
 abbrev Inv-loop : tie.InvT-loop
-Inv-loop places count left₀ t4 left = left ≤ count
+Inv-loop places i₀ i = i ≤ length places
 
 abbrev μ-loop : tie.MeasureT-loop
-μ-loop places count left₀ t4 left = left
+μ-loop places i₀ i = length places - i
 
 loop-holds : tie.Need-loop-holds Inv-loop μ-loop
 loop-holds c = search needs
 
-slice-aggregate-say : tie.Need-slice-aggregate-say Inv-loop μ-loop
-slice-aggregate-say c = search needs
+byte-requires : tie.Need-byte-requires Inv-loop μ-loop
+byte-requires c κs = search needs
 
-say-requires : tie.Need-say-requires Inv-loop μ-loop
-say-requires c κs = search needs
+shared-slice-read-number : tie.Need-shared-slice-read-number Inv-loop μ-loop
+shared-slice-read-number c = search needs
 
-sub-byte-at : tie.Need-sub-byte-at Inv-loop μ-loop
-sub-byte-at c = search needs
-
-byte-at-requires : tie.Need-byte-at-requires Inv-loop μ-loop
-byte-at-requires c κs = search needs
+cast-number : tie.Need-cast-number Inv-loop μ-loop
+cast-number c = omega (arith, c .shared-slice-known2 .given (c .before .before .before .loop .i))
 
 number-requires : tie.Need-number-requires Inv-loop μ-loop
 number-requires c κs = search needs
 
-sub-left : tie.Need-sub-left Inv-loop μ-loop
-sub-left c = search needs
+add-i : tie.Need-add-i Inv-loop μ-loop
+add-i c = search needs
 
 loop-less : tie.Need-loop-less Inv-loop μ-loop
 loop-less c = search needs
@@ -51,12 +49,11 @@ show-places-spec =
     Inv-loop
     μ-loop
     loop-holds
-    slice-aggregate-say
-    say-requires
-    sub-byte-at
-    byte-at-requires
+    byte-requires
+    shared-slice-read-number
+    cast-number
     number-requires
-    sub-left
+    add-i
     loop-less
     loop-again
     returns)

@@ -1,30 +1,34 @@
 use Prim.Native.Nat.{_≤_, _-_}
 use lib.ListN.{length}
+use native.Mathlib.Omega.{arith}
 use borrow.Author.Needs.{needs}
 use Rattle.tool.proofs.questions.show_sizes.Statement.{statement}
 use Rattle.tool.proofs.questions.show_sizes.Tie as tie
 use Rattle.tool.proofs.questions.show_sizes.Reads as reads
 use Rattle.tool.proofs.questions.show_sizes.Lts as lts
+use Rattle.tool.proofs.lines.last.Reads as last-reads
 use Rattle.tool.proofs.lines.named.Reads as named-reads
-use Rattle.tool.proofs.slices.wide_at.Reads as wide-at-reads
 
 abbrev Inv-loop : tie.InvT-loop
-Inv-loop sizes i₀ t3 t4 i = i ≤ length sizes
+Inv-loop sizes i₀ t3 i = i ≤ length sizes
 
 abbrev μ-loop : tie.MeasureT-loop
-μ-loop sizes i₀ t3 t4 i = length sizes - i
+μ-loop sizes i₀ t3 i = length sizes - i
 
 loop-holds : tie.Need-loop-holds Inv-loop μ-loop
 loop-holds c = search needs
 
-slice-aggregate-named : tie.Need-slice-aggregate-named Inv-loop μ-loop
-slice-aggregate-named c = search needs
+mul-last : tie.Need-mul-last Inv-loop μ-loop
+mul-last c = search needs
 
-wide-at-requires : tie.Need-wide-at-requires Inv-loop μ-loop
-wide-at-requires c κs = search needs
+shared-slice-read-last : tie.Need-shared-slice-read-last Inv-loop μ-loop
+shared-slice-read-last c = search needs
 
-named-requires : tie.Need-named-requires Inv-loop μ-loop
-named-requires c κs = search needs
+cast-last : tie.Need-cast-last Inv-loop μ-loop
+cast-last c = omega (arith, c .shared-slice-known2 .given (c .before .before .loop .i))
+
+last-requires : tie.Need-last-requires Inv-loop μ-loop
+last-requires c κs = search needs
 
 add-i : tie.Need-add-i Inv-loop μ-loop
 add-i c = search needs
@@ -35,11 +39,11 @@ loop-less c = search needs
 loop-again : tie.Need-loop-again Inv-loop μ-loop
 loop-again c = search needs
 
-slice-aggregate-named-2 : tie.Need-slice-aggregate-named-2 Inv-loop μ-loop
-slice-aggregate-named-2 c = search needs
+slice-aggregate-named : tie.Need-slice-aggregate-named Inv-loop μ-loop
+slice-aggregate-named c = search needs
 
-named-requires-2 : tie.Need-named-requires-2 Inv-loop μ-loop
-named-requires-2 c κs = search needs
+named-requires : tie.Need-named-requires Inv-loop μ-loop
+named-requires c κs = search needs
 
 returns : tie.Need-returns Inv-loop μ-loop
 returns c = search needs
@@ -51,12 +55,13 @@ show-sizes-spec =
     Inv-loop
     μ-loop
     loop-holds
-    slice-aggregate-named
-    wide-at-requires
-    named-requires
+    mul-last
+    shared-slice-read-last
+    cast-last
+    last-requires
     add-i
     loop-less
     loop-again
-    slice-aggregate-named-2
-    named-requires-2
+    slice-aggregate-named
+    named-requires
     returns)
