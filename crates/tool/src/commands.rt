@@ -5,13 +5,20 @@ use crate::images;
 use crate::images::Task;
 use crate::lines;
 use crate::numbers;
+use crate::places;
 use crate::questions::Question;
 use command_line::Command;
 use text::Number;
 
-// The first word, the place of the name, and how many words there are with the name.
-pub(crate) fn run(word: &[u8], at: usize, words: usize) {
-    let command = command_line::asked(word, words);
+fn asked(at: usize, words: usize) -> Command {
+    let mut space = io::buffer();
+    let n = os::arg(places::place(at, 1), &mut space);
+    command_line::asked(&space[..n], words)
+}
+
+// The place of the name, and how many words there are with the name.
+pub(crate) fn run(at: usize, words: usize) {
+    let command = asked(at, words);
     match command {
         Command::Check => images::on_file(at, Task::Check),
         Command::Show => images::on_file(at, Task::Show),

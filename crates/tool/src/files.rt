@@ -53,32 +53,30 @@ fn filled(file: i32, bytes: &[u8]) -> bool {
     let all = io::write_all(file, bytes);
     let reached = libc::fsync(file);
     let closed = libc::close(file);
-    if reached < 0 {
-        return false;
-    }
-    if closed < 0 {
-        return false;
-    }
-    all
+    all && reached >= 0 && closed >= 0
 }
 
-// Writes the bytes to the new file `part` and renames it to `out` once it is complete. Where that cannot be done, `part` is
-// removed, a line says so, and `out` is as it was.
-fn save(part: &[u8], out: &[u8], bytes: &[u8]) -> bool {
+// Says that a file cannot be written, and answers that it was not.
+fn unwritten(name: &[u8]) -> bool {
+    lines::trouble(b"cannot write ", name);
+    false
+}
+
+// Writes the bytes to the new file `part` and, once it is complete, renames it to what the first n bytes of that name are. Where that
+// cannot be done, `part` is removed, a line says so, and the file that it was to become is as it was.
+fn save(part: &[u8], n: usize, bytes: &[u8]) -> bool {
+    let out = slices::bytes(part, n);
     let file = os::create(part);
     if file < 0 {
-        lines::trouble(b"cannot write ", part);
-        return false;
+        return unwritten(part);
     }
     if filled(file, bytes) {
-        let renamed = os::rename(part, out);
-        if renamed == 0 {
+        if os::rename(part, out) == 0 {
             return true;
         }
     }
     os::unlink(part);
-    lines::trouble(b"cannot write ", out);
-    false
+    unwritten(out)
 }
 
 // Puts ".part" after the first n bytes of a name, and answers its length; 0 where there is no room for it.
@@ -95,15 +93,13 @@ fn add_part(name: &mut [u8], n: usize) -> usize {
 // Writes the bytes as the file that word i after place `at` names, whole or not at all; whether that was done. A name that is empty or too
 // long to have another beside it is no name to write to.
 pub(crate) fn save_word(at: usize, i: usize, bytes: &[u8]) -> bool {
-    let mut out = io::buffer();
-    let n = os::arg(places::place(at, i), &mut out);
-    let mut part_space = io::buffer();
-    let part: &mut [u8] = &mut part_space;
-    os::arg(places::place(at, i), part);
-    let m = add_part(part, n);
-    if n == 0 || m == 0 {
-        lines::trouble(b"cannot write ", &out[..n]);
-        return false;
+    let mut space = io::buffer();
+    let name: &mut [u8] = &mut space;
+    let n = os::arg(places::place(at, i), name);
+    let m = add_part(name, n);
+    if n > 0 && m > 0 {
+        save(slices::bytes(name, m), n, bytes)
+    } else {
+        unwritten(slices::bytes(name, n))
     }
-    save(slices::bytes(part, m), &out[..n], bytes)
 }

@@ -14,11 +14,9 @@ mod squeezing;
 mod trial;
 
 fn main() {
-    let mut space = io::buffer();
-    let n = os::arg(1, &mut space);
-    if check::same(&space[..n], b"trial") {
+    if trial::is_word(1, b"trial") {
         trial::all();
-        return;
+    } else {
+        commands::run(0, os::arg_count());
     }
-    commands::run(&space[..n], 0, os::arg_count());
 }

@@ -4,74 +4,48 @@ use crate::commands;
 use crate::lines;
 use crate::places;
 
-fn is_name(i: usize) -> bool {
+// Whether argument i is this word.
+pub(crate) fn is_word(i: usize, word: &[u8]) -> bool {
     let mut space = io::buffer();
     let n = os::arg(i, &mut space);
-    check::same(&space[..n], b"./myrhjord")
+    check::same(&space[..n], word)
+}
+
+fn is_name(i: usize) -> bool {
+    is_word(i, b"./myrhjord")
 }
 
 // Whether a command line that has come to this place has ended.
 fn ended(i: usize) -> bool {
-    if i >= os::arg_count() {
-        return true;
-    }
-    is_name(i)
+    i >= os::arg_count() || is_name(i)
 }
 
-// How many words a command line has, its name among them; 7 is one too many for every command.
-fn length(at: usize) -> usize {
-    if ended(places::place(at, 1)) {
-        return 1;
-    }
-    if ended(places::place(at, 2)) {
-        return 2;
-    }
-    if ended(places::place(at, 3)) {
-        return 3;
-    }
-    if ended(places::place(at, 4)) {
-        return 4;
-    }
-    if ended(places::place(at, 5)) {
-        return 5;
-    }
-    if ended(places::place(at, 6)) {
-        return 6;
-    }
-    7
-}
-
-fn show_word(at: usize, i: usize, words: usize) {
-    if i < words {
-        let mut space = io::buffer();
-        let n = os::arg(places::place(at, i), &mut space);
-        lines::say(b" ");
-        lines::say(&space[..n]);
-    }
-}
-
-fn show_line(at: usize, words: usize) {
-    lines::say(b"$ ./myrhjord");
-    show_word(at, 1, words);
-    show_word(at, 2, words);
-    show_word(at, 3, words);
-    show_word(at, 4, words);
-    show_word(at, 5, words);
-    show_word(at, 6, words);
-    lines::say(b"\n");
-}
-
-fn run_line(at: usize) {
-    let words = length(at);
-    show_line(at, words);
+fn show_word(i: usize) {
     let mut space = io::buffer();
-    let n = os::arg(places::place(at, 1), &mut space);
-    commands::run(&space[..n], at, words);
+    let n = os::arg(i, &mut space);
+    lines::byte(b' ');
+    lines::say(&space[..n]);
+}
+
+// Writes the command line at a place, and answers how many words it has, its name among them; 7 is one too many for every command.
+fn show_line(at: usize) -> usize {
+    lines::say(b"$ ./myrhjord");
+    let mut words = 1;
+    while words < 7 {
+        let next = places::place(at, words);
+        if ended(next) {
+            break;
+        }
+        show_word(next);
+        words += 1;
+    }
+    lines::byte(b'\n');
+    words
 }
 
 fn visit(i: usize) {
     if is_name(i) {
-        run_line(i);
+        commands::run(i, show_line(i));
     }
 }
 
