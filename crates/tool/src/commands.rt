@@ -1,14 +1,21 @@
 // What a command line asks for is done. A command line stands among the program's arguments: its name at a place, which is 0 for the
 // program's own, and its words after that. Words that have to be numbers are looked at before any file.
-use crate::comparing;
 use crate::images;
-use crate::images::Task;
 use crate::lines;
 use crate::numbers;
 use crate::places;
-use crate::questions::Question;
 use command_line::Command;
+use rules::Wire;
 use text::Number;
+use words::Word;
+
+// A command on image files, with the numbers that it names: the id of a list, and a header to ask for or to start from. One that it does
+// not name is 0.
+pub(crate) struct Request {
+    pub command: Command,
+    pub id: Word,
+    pub header: Wire,
+}
 
 fn asked(at: usize, words: usize) -> Command {
     let mut space = io::buffer();
@@ -20,34 +27,52 @@ fn asked(at: usize, words: usize) -> Command {
 pub(crate) fn run(at: usize, words: usize) {
     let command = asked(at, words);
     match command {
-        Command::Check => images::on_file(at, Task::Check),
-        Command::Show => images::on_file(at, Task::Show),
-        Command::Lookup => lookup(at),
-        Command::Runs => runs(at),
-        Command::Weave => images::on_file(at, Task::Weave),
-        Command::Compare => comparing::compare_files(at),
-        Command::CompareId => comparing::compare_id(at),
-        Command::CompareFrom => comparing::compare_from(at),
+        Command::Lookup => with_header(at, command, 3, 4),
+        Command::Runs => with_id(at, command, 3),
+        Command::CompareId => with_id(at, command, 4),
+        Command::CompareFrom => with_header(at, command, 4, 5),
         Command::Usage => lines::usage(),
+        _ => images::on_file(
+            at,
+            Request {
+                command,
+                id: words::wide(0),
+                header: Wire(words::wide(0)),
+            },
+        ),
     }
 }
 
-// lookup FILE ID HEADER
-fn lookup(at: usize) {
-    let i = numbers::number_at(at, 3);
-    let Number::Value(id) = i else {
+// A command whose word i is an id.
+fn with_id(at: usize, command: Command, i: usize) {
+    let n = numbers::number_at(at, i);
+    if let Number::Value(id) = n {
+        images::on_file(
+            at,
+            Request {
+                command,
+                id,
+                header: Wire(words::wide(0)),
+            },
+        );
+    }
+}
+
+// A command whose word i is an id, and word h a header.
+fn with_header(at: usize, command: Command, i: usize, h: usize) {
+    let n = numbers::number_at(at, i);
+    let Number::Value(id) = n else {
         return;
     };
-    let h = numbers::number_at(at, 4);
-    if let Number::Value(header) = h {
-        images::on_file(at, Task::Ask(id, Question::Answer(header)));
-    }
-}
-
-// runs FILE ID
-fn runs(at: usize) {
-    let i = numbers::number_at(at, 3);
-    if let Number::Value(id) = i {
-        images::on_file(at, Task::Ask(id, Question::Runs));
+    let m = numbers::number_at(at, h);
+    if let Number::Value(header) = m {
+        images::on_file(
+            at,
+            Request {
+                command,
+                id,
+                header: Wire(header),
+            },
+        );
     }
 }

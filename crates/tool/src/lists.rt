@@ -1,11 +1,10 @@
 // What is in an image: its format, its width and its lists.
+use crate::commands::Request;
 use crate::lines;
 use crate::questions;
-use crate::questions::Question;
 use crate::squeezing;
+use command_line::Command;
 use image::Listed;
-use image::Outcome;
-use rules::Refusal;
 use rules::Verdict;
 use words::Word;
 
@@ -14,99 +13,70 @@ pub(crate) fn width_of(image: &[u8]) -> u32 {
     image_form::byte_at(image, 1) as u32
 }
 
-// Whether an image that was accepted has a list with that id.
-pub(crate) fn has(image: &[u8], id: Word) -> bool {
-    let number = words::capped(id);
-    if number <= 65535 {
-        let v = image::body_refusal(image, number as u16);
-        if let Verdict::Fine = v {
-            return true;
-        }
-    }
-    false
+// An id as lists have it, of a list that is there.
+pub(crate) fn short(id: Word) -> u16 {
+    (id.low % 65536) as u16
 }
 
-// Reads a list out. An id above 65,535 is that of no list: the image's own refusals, then 15.
-pub(crate) fn read(
-    image: &[u8],
-    id: Word,
-    care: &mut [u64],
-    value: &mut [u64],
-    decision: &mut [u16],
-) -> Outcome {
-    let number = words::capped(id);
-    if number <= 65535 {
-        return image::read(image, number as u16, care, value, decision);
+// Why an image has no list with that id. An id above 65,535 is that of no list: the image's own refusals, then 15.
+fn sought(image: &[u8], id: Word) -> Verdict {
+    if words::capped(id) <= 65535 {
+        return image::body_refusal(image, short(id));
     }
-    Outcome::Refused(no_list(image))
-}
-
-// Why an image has no list with an id that none can have.
-pub(crate) fn no_list(image: &[u8]) -> Refusal {
     let v = image::check(image);
+    match v {
+        Verdict::Fine => rules::refused(15, 0, 0),
+        Verdict::Refused(_) => v,
+    }
+}
+
+// Whether an image has a list with that id; where it has none, a line says why, with its own end where that is 15.
+pub(crate) fn has(image: &[u8], id: Word, end: &[u8]) -> bool {
+    let v = sought(image, id);
     if let Verdict::Refused(x) = v {
-        return x;
+        lines::refusal_of(x, id, end);
+        return false;
     }
-    Refusal {
-        number: 15,
-        list: 0,
-        rule: 0,
-    }
+    true
 }
 
-// check FILE
-pub(crate) fn check(image: &[u8]) {
+// check FILE and show FILE
+pub(crate) fn tell(image: &[u8], request: Request) {
     let v = image::check(image);
     match v {
-        Verdict::Fine => accepted(image),
+        Verdict::Fine => accepted(image, request),
         Verdict::Refused(x) => lines::refusal(x),
     }
 }
 
-fn accepted(image: &[u8]) {
-    lines::say(b"accepted\n");
-    lines::named(b"format ", image_form::byte_at(image, 0));
-    lines::named(b"width ", image_form::byte_at(image, 1));
-    each(image, Part::Size);
-}
-
-// show FILE
-pub(crate) fn show(image: &[u8]) {
-    let v = image::check(image);
-    match v {
-        Verdict::Fine => each(image, Part::Rules),
-        Verdict::Refused(x) => lines::refusal(x),
+fn accepted(image: &[u8], request: Request) {
+    let command = request.command;
+    if let Command::Check = command {
+        lines::say(b"accepted\n");
+        lines::named(b"format ", image_form::byte_at(image, 0));
+        lines::named(b"width ", image_form::byte_at(image, 1));
     }
+    each(image, request);
 }
 
-// After the lists were woven into another image.
-pub(crate) fn report(image: &[u8]) {
-    each(image, Part::Tally);
-}
-
-// What is said of each list of an image: how many rules it has, its rules, or what weaving makes of it.
-enum Part {
-    Size,
-    Rules,
-    Tally,
-}
-
-// Says it of one list after the other. An image has at most 16.
-fn each(image: &[u8], part: Part) {
+// Says of one list after the other what the command asks for. An image has at most 16.
+pub(crate) fn each(image: &[u8], request: Request) {
     let mut left: usize = 16;
     while left > 0 {
-        say_entry(image, 17 - left, part);
+        say_entry(image, 17 - left, request);
         left -= 1;
     }
 }
 
-fn say_entry(image: &[u8], k: usize, part: Part) {
+// How many rules a list has, what weaving makes of it, or its rules.
+fn say_entry(image: &[u8], k: usize, request: Request) {
     let e = image::entry(image, k);
     if let Listed::List { id, rules } = e {
-        match part {
-            Part::Size => size(id, rules),
-            Part::Rules => show_list(image, id),
-            Part::Tally => squeezing::report(image, id, rules),
+        let command = request.command;
+        match command {
+            Command::Check => size(id, rules),
+            Command::Weave => squeezing::report(image, id, rules),
+            _ => show_list(image, id, request),
         }
     }
 }
@@ -117,7 +87,7 @@ fn size(id: u16, rules: usize) {
     lines::named(b" rules ", rules);
 }
 
-fn show_list(image: &[u8], id: u16) {
+fn show_list(image: &[u8], id: u16, request: Request) {
     lines::named(b"list ", id as usize);
-    questions::ask(image, words::wide(id as u64), Question::Rules);
+    questions::ask(image, id, request);
 }

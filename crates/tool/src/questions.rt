@@ -1,50 +1,51 @@
 // Questions about one list of an image: its rules, what it answers to a header, and its runs.
+use crate::commands::Request;
 use crate::lines;
 use crate::lists;
 use crate::slices;
+use command_line::Command;
 use image::Outcome;
 use rules::Looked;
 use rules::Refusal;
 use rules::Rule;
 use rules::Verdict;
-use rules::Wire;
 use swaps::Swap;
 use weaving::Counted;
-use words::Word;
 
-// What is asked of a list.
-pub(crate) enum Question {
-    Rules,
-    Answer(Word),
-    Runs,
+// The list with the id that was named, where it is there.
+pub(crate) fn ask_by_id(image: &[u8], request: Request) {
+    if lists::has(image, request.id, b"\n") {
+        ask(image, lists::short(request.id), request);
+    }
 }
 
 // Reads the list with that id out of the image, and answers.
-pub(crate) fn ask(image: &[u8], id: Word, question: Question) {
+pub(crate) fn ask(image: &[u8], id: u16, request: Request) {
     let mut care_space = [0u64; 2048];
     let mut value_space = [0u64; 2048];
     let mut decision_space = [0u16; 1024];
     let care: &mut [u64] = &mut care_space;
     let value: &mut [u64] = &mut value_space;
     let decision: &mut [u16] = &mut decision_space;
-    let o = lists::read(image, id, care, value, decision);
+    let o = image::read(image, id, care, value, decision);
     match o {
         Outcome::Number(n) => answered(
             lists::width_of(image),
             slices::words(care, n),
             slices::words(value, n),
             slices::shorts(decision, n),
-            question,
+            request,
         ),
-        Outcome::Refused(x) => lines::refusal_of(x, id, b"\n"),
+        Outcome::Refused(x) => lines::refusal(x),
     }
 }
 
-fn answered(width: u32, care: &[u64], value: &[u64], decision: &[u16], question: Question) {
-    match question {
-        Question::Rules => show_rules(width, care, value, decision),
-        Question::Answer(h) => answer(rules::lookup(width, care, value, decision, Wire(h))),
-        Question::Runs => runs(width, care, value, decision),
+fn answered(width: u32, care: &[u64], value: &[u64], decision: &[u16], request: Request) {
+    let command = request.command;
+    match command {
+        Command::Lookup => answer(rules::lookup(width, care, value, decision, request.header)),
+        Command::Runs => runs(width, care, value, decision),
+        _ => show_rules(width, care, value, decision),
     }
 }
 

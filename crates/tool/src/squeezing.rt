@@ -1,4 +1,5 @@
 // Weaving every list of an image into a new image file. A refusal is said in one line, and then no file is written.
+use crate::commands::Request;
 use crate::files;
 use crate::lines;
 use crate::lists;
@@ -7,21 +8,20 @@ use image::Outcome;
 use weaving::Tally;
 use weaving::Woven;
 
-// weave FILE OUT. The image is made whole before there is a file of it.
-pub(crate) fn weave(at: usize, image: &[u8]) {
+// weave FILE OUT. The image is made whole before there is a file of it, and the lines are written once the file is in its place.
+pub(crate) fn weave(at: usize, image: &[u8], request: Request) {
     let mut space = io::large_buffer();
     let out: &mut [u8] = &mut space;
     let o = image_weaving::weave_image(image, out);
     match o {
-        Outcome::Number(n) => save(at, image, slices::bytes(out, n)),
+        Outcome::Number(n) => save(at, image, slices::bytes(out, n), request),
         Outcome::Refused(x) => lines::refusal(x),
     }
 }
 
-// The lines are written once the file is in its place.
-fn save(at: usize, image: &[u8], woven: &[u8]) {
+fn save(at: usize, image: &[u8], woven: &[u8], request: Request) {
     if files::save_word(at, 3, woven) {
-        lists::report(image);
+        lists::each(image, request);
     }
 }
 
