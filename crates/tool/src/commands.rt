@@ -27,39 +27,17 @@ fn asked(at: usize, words: usize) -> Command {
 pub(crate) fn run(at: usize, words: usize) {
     let command = asked(at, words);
     match command {
-        Command::Lookup => with_header(at, command, 3, 4),
-        Command::Runs => with_id(at, command, 3),
-        Command::CompareId => with_id(at, command, 4),
-        Command::CompareFrom => with_header(at, command, 4, 5),
+        Command::Lookup => with_numbers(at, command, 3, 4),
+        Command::Runs => with_numbers(at, command, 3, 0),
+        Command::CompareId => with_numbers(at, command, 4, 0),
+        Command::CompareFrom => with_numbers(at, command, 4, 5),
         Command::Usage => lines::usage(),
-        _ => images::on_file(
-            at,
-            Request {
-                command,
-                id: words::wide(0),
-                header: Wire(words::wide(0)),
-            },
-        ),
+        _ => with_numbers(at, command, 0, 0),
     }
 }
 
-// A command whose word i is an id.
-fn with_id(at: usize, command: Command, i: usize) {
-    let n = numbers::number_at(at, i);
-    if let Number::Value(id) = n {
-        images::on_file(
-            at,
-            Request {
-                command,
-                id,
-                header: Wire(words::wide(0)),
-            },
-        );
-    }
-}
-
-// A command whose word i is an id, and word h a header.
-fn with_header(at: usize, command: Command, i: usize, h: usize) {
+// A command whose word i is an id, and word h a header; 0 where it names none.
+fn with_numbers(at: usize, command: Command, i: usize, h: usize) {
     let n = numbers::number_at(at, i);
     let Number::Value(id) = n else {
         return;

@@ -12,10 +12,9 @@ use compare::Ending;
 // The new image is the file that word 3 after place `at` names.
 pub(crate) fn on_new_file(at: usize, old: &[u8], request: Request) {
     let mut space = files::space();
-    let all: &mut [u8] = &mut space;
-    let held = files::load_word(at, 3, all);
+    let held = files::load_word(at, 3, &mut space);
     if let Held::Bytes(n) = held {
-        compare(old, slices::bytes(all, n), request);
+        compare(old, slices::bytes(&space, n), request);
     }
 }
 

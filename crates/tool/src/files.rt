@@ -93,13 +93,12 @@ fn add_part(name: &mut [u8], n: usize) -> usize {
 // Writes the bytes as the file that word i after place `at` names, whole or not at all; whether that was done. A name that is empty or too
 // long to have another beside it is no name to write to.
 pub(crate) fn save_word(at: usize, i: usize, bytes: &[u8]) -> bool {
-    let mut space = io::buffer();
-    let name: &mut [u8] = &mut space;
-    let n = os::arg(places::place(at, i), name);
-    let m = add_part(name, n);
+    let mut name = io::buffer();
+    let n = os::arg(places::place(at, i), &mut name);
+    let m = add_part(&mut name, n);
     if n > 0 && m > 0 {
-        save(slices::bytes(name, m), n, bytes)
+        save(slices::bytes(&name, m), n, bytes)
     } else {
-        unwritten(slices::bytes(name, n))
+        unwritten(slices::bytes(&name, n))
     }
 }

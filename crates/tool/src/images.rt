@@ -12,10 +12,9 @@ use command_line::Command;
 // The image is the file that word 2 after place `at` names.
 pub(crate) fn on_file(at: usize, request: Request) {
     let mut space = files::space();
-    let all: &mut [u8] = &mut space;
-    let held = files::load_word(at, 2, all);
+    let held = files::load_word(at, 2, &mut space);
     if let Held::Bytes(n) = held {
-        on_image(at, slices::bytes(all, n), request);
+        on_image(at, slices::bytes(&space, n), request);
     }
 }
 

@@ -41,6 +41,12 @@ pub(crate) fn named(name: &[u8], n: usize) {
     last(n);
 }
 
+// Which list is spoken of.
+pub(crate) fn list(id: u16) {
+    say(b"list ");
+    number(id as usize);
+}
+
 // A place: a list and a rule, to the end of the line.
 pub(crate) fn place(before: &[u8], list: usize, rule: usize) {
     say(before);

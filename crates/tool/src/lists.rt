@@ -8,11 +8,6 @@ use image::Listed;
 use rules::Verdict;
 use words::Word;
 
-// The width of an image that was accepted.
-pub(crate) fn width_of(image: &[u8]) -> u32 {
-    image_form::byte_at(image, 1) as u32
-}
-
 // An id as lists have it, of a list that is there.
 pub(crate) fn short(id: Word) -> u16 {
     (id.low % 65536) as u16
@@ -74,20 +69,16 @@ fn say_entry(image: &[u8], k: usize, request: Request) {
     if let Listed::List { id, rules } = e {
         let command = request.command;
         match command {
-            Command::Check => size(id, rules),
+            Command::Check => {
+                lines::list(id);
+                lines::named(b" rules ", rules);
+            }
             Command::Weave => squeezing::report(image, id, rules),
-            _ => show_list(image, id, request),
+            _ => {
+                lines::list(id);
+                lines::byte(b'\n');
+                questions::ask(image, id, request);
+            }
         }
     }
-}
-
-fn size(id: u16, rules: usize) {
-    lines::say(b"list ");
-    lines::number(id as usize);
-    lines::named(b" rules ", rules);
-}
-
-fn show_list(image: &[u8], id: u16, request: Request) {
-    lines::named(b"list ", id as usize);
-    questions::ask(image, id, request);
 }

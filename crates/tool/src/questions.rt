@@ -21,26 +21,24 @@ pub(crate) fn ask_by_id(image: &[u8], request: Request) {
 
 // Reads the list with that id out of the image, and answers.
 pub(crate) fn ask(image: &[u8], id: u16, request: Request) {
-    let mut care_space = [0u64; 2048];
-    let mut value_space = [0u64; 2048];
-    let mut decision_space = [0u16; 1024];
-    let care: &mut [u64] = &mut care_space;
-    let value: &mut [u64] = &mut value_space;
-    let decision: &mut [u16] = &mut decision_space;
-    let o = image::read(image, id, care, value, decision);
+    let mut care = [0u64; 2048];
+    let mut value = [0u64; 2048];
+    let mut decision = [0u16; 1024];
+    let o = image::read(image, id, &mut care, &mut value, &mut decision);
     match o {
         Outcome::Number(n) => answered(
-            lists::width_of(image),
-            slices::words(care, n),
-            slices::words(value, n),
-            slices::shorts(decision, n),
+            image,
+            slices::words(&care, n),
+            slices::words(&value, n),
+            slices::shorts(&decision, n),
             request,
         ),
         Outcome::Refused(x) => lines::refusal(x),
     }
 }
 
-fn answered(width: u32, care: &[u64], value: &[u64], decision: &[u16], request: Request) {
+fn answered(image: &[u8], care: &[u64], value: &[u64], decision: &[u16], request: Request) {
+    let width = image_form::byte_at(image, 1) as u32;
     let command = request.command;
     match command {
         Command::Lookup => answer(rules::lookup(width, care, value, decision, request.header)),
@@ -58,10 +56,9 @@ fn show_rules(width: u32, care: &[u64], value: &[u64], decision: &[u16]) {
 }
 
 fn show_rule(width: u32, rule: Rule) {
-    let mut space = [0u8; 128];
-    let pattern: &mut [u8] = &mut space;
-    let n = text::write_pattern(width, rule, pattern);
-    lines::say(slices::bytes(pattern, n));
+    let mut pattern = [0u8; 128];
+    let n = text::write_pattern(width, rule, &mut pattern);
+    lines::say(slices::bytes(&pattern, n));
     lines::byte(b' ');
     lines::last(rule.decision as usize);
 }
@@ -75,12 +72,11 @@ fn answer(l: Looked) {
 }
 
 fn runs(width: u32, care: &[u64], value: &[u64], decision: &[u16]) {
-    let mut space = [0u16; 1024];
-    let sizes: &mut [u16] = &mut space;
-    let c = weaving::runs(width, care, value, decision, sizes);
+    let mut sizes = [0u16; 1024];
+    let c = weaving::runs(width, care, value, decision, &mut sizes);
     match c {
         Counted::Runs(n) => {
-            show_sizes(slices::shorts(sizes, n));
+            show_sizes(slices::shorts(&sizes, n));
             show_order(width, care, value, decision);
         }
         Counted::Refused(x) => lines::refusal(x),

@@ -10,18 +10,15 @@ use weaving::Woven;
 
 // weave FILE OUT. The image is made whole before there is a file of it, and the lines are written once the file is in its place.
 pub(crate) fn weave(at: usize, image: &[u8], request: Request) {
-    let mut space = io::large_buffer();
-    let out: &mut [u8] = &mut space;
-    let o = image_weaving::weave_image(image, out);
+    let mut woven = io::large_buffer();
+    let o = image_weaving::weave_image(image, &mut woven);
     match o {
-        Outcome::Number(n) => save(at, image, slices::bytes(out, n), request),
+        Outcome::Number(n) => {
+            if files::save_word(at, 3, slices::bytes(&woven, n)) {
+                lists::each(image, request);
+            }
+        }
         Outcome::Refused(x) => lines::refusal(x),
-    }
-}
-
-fn save(at: usize, image: &[u8], woven: &[u8], request: Request) {
-    if files::save_word(at, 3, woven) {
-        lists::each(image, request);
     }
 }
 
@@ -29,14 +26,14 @@ fn save(at: usize, image: &[u8], woven: &[u8], request: Request) {
 pub(crate) fn report(image: &[u8], id: u16, rules: usize) {
     let w = image_weaving::tally(image, id);
     match w {
-        Woven::Done(t) => say_tally(id as usize, rules, t),
+        Woven::Done(t) => say_tally(id, rules, t),
         Woven::Refused(x) => lines::refusal(x),
     }
 }
 
-fn say_tally(id: usize, rules: usize, tally: Tally) {
-    lines::say(b"list ");
-    lines::counted(id, b": ");
+fn say_tally(id: u16, rules: usize, tally: Tally) {
+    lines::list(id);
+    lines::say(b": ");
     lines::counted(rules, b" rules, ");
     lines::counted(tally.kept, b" kept, ");
     lines::counted(tally.dropped, b" dropped, ");

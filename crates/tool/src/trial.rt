@@ -15,11 +15,6 @@ fn is_name(i: usize) -> bool {
     is_word(i, b"./myrhjord")
 }
 
-// Whether a command line that has come to this place has ended.
-fn ended(i: usize) -> bool {
-    i >= os::arg_count() || is_name(i)
-}
-
 fn show_word(i: usize) {
     let mut space = io::buffer();
     let n = os::arg(i, &mut space);
@@ -33,7 +28,7 @@ fn show_line(at: usize) -> usize {
     let mut words = 1;
     while words < 7 {
         let next = places::place(at, words);
-        if ended(next) {
+        if next >= os::arg_count() || is_name(next) {
             break;
         }
         show_word(next);
@@ -43,18 +38,15 @@ fn show_line(at: usize) -> usize {
     words
 }
 
-fn visit(i: usize) {
-    if is_name(i) {
-        commands::run(i, show_line(i));
-    }
-}
-
 // The command lines among the arguments, one after the other.
 pub(crate) fn all() {
     let count = os::arg_count();
     let mut left = count;
     while left > 0 {
-        visit(count - left);
+        let i = count - left;
+        if is_name(i) {
+            commands::run(i, show_line(i));
+        }
         left -= 1;
     }
 }

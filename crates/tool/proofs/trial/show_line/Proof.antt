@@ -4,10 +4,11 @@ use Rattle.tool.proofs.trial.show_line.Statement.{statement}
 use Rattle.tool.proofs.trial.show_line.Tie as tie
 use Rattle.tool.proofs.trial.show_line.Reads as reads
 use Rattle.tool.proofs.trial.show_line.Lts as lts
+use Rattle.os.proofs.arg_count.Reads as arg-count-reads
 use Rattle.tool.proofs.lines.byte.Reads as byte-reads
 use Rattle.tool.proofs.lines.say.Reads as say-reads
 use Rattle.tool.proofs.places.place.Reads as place-reads
-use Rattle.tool.proofs.trial.ended.Reads as ended-reads
+use Rattle.tool.proofs.trial.is_name.Reads as is-name-reads
 use Rattle.tool.proofs.trial.show_word.Reads as show-word-reads
 
 abbrev Inv-loop : tie.InvT-loop
@@ -28,8 +29,11 @@ loop-holds c = search needs
 place-requires : tie.Need-place-requires Inv-loop μ-loop
 place-requires c κs = search needs
 
-ended-requires : tie.Need-ended-requires Inv-loop μ-loop
-ended-requires c κs = search needs
+arg-count-requires : tie.Need-arg-count-requires Inv-loop μ-loop
+arg-count-requires c κs = search needs
+
+is-name-requires : tie.Need-is-name-requires Inv-loop μ-loop
+is-name-requires c κs = search needs
 
 show-word-requires : tie.Need-show-word-requires Inv-loop μ-loop
 show-word-requires c κs = search needs
@@ -59,7 +63,8 @@ show-line-spec =
     say-requires
     loop-holds
     place-requires
-    ended-requires
+    arg-count-requires
+    is-name-requires
     show-word-requires
     add-words
     loop-less
