@@ -18,10 +18,11 @@ pub(crate) fn space() -> [u8; 65537]
     [0; 65537]
 }
 
-// Whether one more read of an open file fails. A directory can be opened, and only this tells it from an empty file.
+// Closes an open file after one more read; whether that read failed. A directory can be opened, and only this tells it from an empty file.
 fn fails(file: i32) -> bool {
     let mut one = [0u8; 1];
     let got = libc::read(file, &mut one);
+    libc::close(file);
     got < 0
 }
 
@@ -32,13 +33,12 @@ fn load(path: &[u8], buffer: &mut [u8]) -> Held {
         return Held::Nothing;
     }
     let n = io::read_full(file, buffer);
-    let failed = fails(file);
-    libc::close(file);
-    if failed {
+    if fails(file) {
         lines::trouble(b"cannot read ", path);
-        return Held::Nothing;
+        Held::Nothing
+    } else {
+        Held::Bytes(n)
     }
-    Held::Bytes(n)
 }
 
 // Reads the file that word i after place `at` names into the start of the buffer.
@@ -79,12 +79,14 @@ fn save(part: &[u8], n: usize, bytes: &[u8]) -> bool {
     unwritten(out)
 }
 
-// Puts ".part" after the first n bytes of a name, and answers its length; 0 where there is no room for it.
+// Puts ".part" after the first n bytes of a name, and answers its length; 0 where the name is empty or there is no room for it.
 fn add_part(name: &mut [u8], n: usize) -> usize {
-    if n <= 4000 {
-        if n + 5 <= name.len() {
-            bytes::copy(b".part", &mut name[n..]);
-            return n + 5;
+    if 0 < n {
+        if n <= 4000 {
+            if n + 5 <= name.len() {
+                bytes::copy(b".part", &mut name[n..]);
+                return n + 5;
+            }
         }
     }
     0
@@ -96,7 +98,7 @@ pub(crate) fn save_word(at: usize, i: usize, bytes: &[u8]) -> bool {
     let mut name = io::buffer();
     let n = os::arg(places::place(at, i), &mut name);
     let m = add_part(&mut name, n);
-    if n > 0 && m > 0 {
+    if m > 0 {
         save(slices::bytes(&name, m), n, bytes)
     } else {
         unwritten(slices::bytes(&name, n))

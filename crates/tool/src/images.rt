@@ -21,10 +21,8 @@ pub(crate) fn on_file(at: usize, request: Request) {
 fn on_image(at: usize, image: &[u8], request: Request) {
     let command = request.command;
     match command {
-        Command::Check => lists::tell(image, request),
-        Command::Show => lists::tell(image, request),
-        Command::Lookup => questions::ask_by_id(image, request),
-        Command::Runs => questions::ask_by_id(image, request),
+        Command::Check | Command::Show => lists::tell(image, request),
+        Command::Lookup | Command::Runs => questions::ask_by_id(image, request),
         Command::Weave => squeezing::weave(at, image, request),
         _ => comparing::on_new_file(at, image, request),
     }

@@ -39,19 +39,17 @@ pub(crate) fn has(image: &[u8], id: Word, end: &[u8]) -> bool {
 pub(crate) fn tell(image: &[u8], request: Request) {
     let v = image::check(image);
     match v {
-        Verdict::Fine => accepted(image, request),
+        Verdict::Fine => {
+            let command = request.command;
+            if let Command::Check = command {
+                lines::say(b"accepted\n");
+                lines::named(b"format ", image_form::byte_at(image, 0));
+                lines::named(b"width ", image_form::byte_at(image, 1));
+            }
+            each(image, request);
+        }
         Verdict::Refused(x) => lines::refusal(x),
     }
-}
-
-fn accepted(image: &[u8], request: Request) {
-    let command = request.command;
-    if let Command::Check = command {
-        lines::say(b"accepted\n");
-        lines::named(b"format ", image_form::byte_at(image, 0));
-        lines::named(b"width ", image_form::byte_at(image, 1));
-    }
-    each(image, request);
 }
 
 // Says of one list after the other what the command asks for. An image has at most 16.
