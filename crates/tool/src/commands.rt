@@ -39,18 +39,17 @@ pub(crate) fn run(at: usize, words: usize) {
 // A command whose word i is an id, and word h a header; 0 where it names none.
 fn with_numbers(at: usize, command: Command, i: usize, h: usize) {
     let n = numbers::number_at(at, i);
-    let Number::Value(id) = n else {
-        return;
-    };
-    let m = numbers::number_at(at, h);
-    if let Number::Value(header) = m {
-        images::on_file(
-            at,
-            Request {
-                command,
-                id,
-                header: Wire(header),
-            },
-        );
+    if let Number::Value(id) = n {
+        let m = numbers::number_at(at, h);
+        if let Number::Value(header) = m {
+            images::on_file(
+                at,
+                Request {
+                    command,
+                    id,
+                    header: Wire(header),
+                },
+            );
+        }
     }
 }
