@@ -7,7 +7,7 @@ pub(crate) fn say(s: &[u8]) {
     io::write_all(1, s);
 }
 
-// A space, or the end of a line: it is handed over as a number, which is less for the prover to follow than a text that is lent.
+// One byte: a space, or the end of a line.
 pub(crate) fn byte(b: u8) {
     io::write_all(1, &[b]);
 }
