@@ -42,8 +42,7 @@ pub(crate) fn tell(image: &[u8], request: Request) {
         Verdict::Fine => {
             let command = request.command;
             if let Command::Check = command {
-                lines::say(b"accepted\n");
-                lines::named(b"format ", image_form::byte_at(image, 0));
+                lines::named(b"accepted\nformat ", image_form::byte_at(image, 0));
                 lines::named(b"width ", image_form::byte_at(image, 1));
             }
             each(image, request);

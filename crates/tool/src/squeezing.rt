@@ -33,7 +33,8 @@ pub(crate) fn report(image: &[u8], id: u16, rules: usize) {
 
 fn say_tally(id: u16, rules: usize, tally: Tally) {
     lines::list(id);
-    lines::say(b": ");
+    lines::byte(b':');
+    lines::byte(b' ');
     lines::counted(rules, b" rules, ");
     lines::counted(tally.kept, b" kept, ");
     lines::counted(tally.dropped, b" dropped, ");

@@ -2,7 +2,6 @@
 // after it what it gives. A command line starts with the tool's name.
 use crate::commands;
 use crate::lines;
-use crate::places;
 
 // Whether argument i is this word.
 pub(crate) fn is_word(i: usize, word: &[u8]) -> bool {
@@ -15,6 +14,10 @@ fn is_name(i: usize) -> bool {
     is_word(i, b"./myrhjord")
 }
 
+fn show_name() {
+    lines::say(b"$ ./myrhjord");
+}
+
 fn show_word(i: usize) {
     let mut space = io::buffer();
     let n = os::arg(i, &mut space);
@@ -22,31 +25,28 @@ fn show_word(i: usize) {
     lines::say(&space[..n]);
 }
 
-// Writes the command line at a place, and answers how many words it has, its name among them; 7 is one too many for every command.
-fn show_line(at: usize) -> usize {
-    lines::say(b"$ ./myrhjord");
-    let mut words = 1;
-    while words < 7 {
-        let next = places::place(at, words);
-        if next >= os::arg_count() || is_name(next) {
-            break;
-        }
-        show_word(next);
-        words += 1;
+// Does what the command line from place `at` on asks for, which ends before place `end` and was written. There is none where it is empty.
+fn finish(at: usize, end: usize) {
+    if at < end {
+        lines::byte(b'\n');
+        commands::run(at, end - at);
     }
-    lines::byte(b'\n');
-    words
 }
 
 // The command lines among the arguments, one after the other.
 pub(crate) fn all() {
     let count = os::arg_count();
-    let mut left = count;
-    while left > 0 {
-        let i = count - left;
+    let mut at = count;
+    let mut i = 0;
+    while i < count {
         if is_name(i) {
-            commands::run(i, show_line(i));
+            finish(at, i);
+            show_name();
+            at = i;
+        } else if at < i {
+            show_word(i);
         }
-        left -= 1;
+        i += 1;
     }
+    finish(at, count);
 }
