@@ -4,9 +4,10 @@ use crate::given;
 use crate::image_calls;
 use crate::names;
 use crate::rules_calls;
+use crate::show;
 use crate::slices;
-use crate::source::Taken;
-use crate::source::named;
+use crate::source::answer_at;
+use crate::source::named_if;
 use crate::source::part;
 use crate::source::word_end;
 use crate::source::word_start;
@@ -14,7 +15,7 @@ use crate::swaps_calls;
 use crate::weaving_calls;
 
 // What a case that starts with no name of a call answers.
-pub const UNKNOWN: usize = 2199023255553;
+pub const UNKNOWN: usize = 2199023255552;
 
 // Makes the call that the case asks for, and holds what it answers to the text `w`, or writes it (`show`). The position after the answer;
 // where the case cannot be read, a bad position in the case.
@@ -22,25 +23,17 @@ pub fn answered(s: &[u8], w: &[u8], to: usize) -> usize {
     let at = word_start(s, 0);
     let end = word_end(s, at);
     let call = names::number_of(part(s, at, end));
-    if call < names::COMPARE {
-        return on_list(call, names::LIST, s, end, w, to);
+    match call {
+        names::CHECK_LIST..=names::RULE_AT => on_list(call, s, end, w, to),
+        names::PUT_RULE => rules_calls::put_rule(s, end, w, to),
+        names::CHECK_RULE..=names::DISTANCE => rules_calls::on_rules(call, s, end, w, to),
+        names::APPLY_RULE..=names::COMPOSE => swaps_calls::on_swap(call, s, end, w, to),
+        names::CHECK..=names::WEAVE_IMAGE => image_calls::on_image(call, s, end, w, to),
+        names::COMPARE_LISTS | names::COMPARE_FIRST => {
+            compare_calls::on_images(call, s, end, w, to)
+        }
+        _ => UNKNOWN,
     }
-    if call == names::COMPARE {
-        return on_list(call, names::OLD, s, end, w, to);
-    }
-    if call <= names::DISTANCE {
-        return rules_calls::on_rules(call, s, end, w, to);
-    }
-    if call <= names::COMPOSE {
-        return swaps_calls::on_swap(call, s, end, w, to);
-    }
-    if call <= names::WEAVE_IMAGE {
-        return image_calls::on_image(call, s, end, w, to);
-    }
-    if call <= names::COMPARE_FIRST {
-        return compare_calls::on_images(call, s, end, w, to);
-    }
-    UNKNOWN
 }
 
 // What stands before a list: its width, and in the call `write` a format before that.
@@ -51,8 +44,14 @@ struct Head {
 }
 
 fn head_of(call: usize, s: &[u8], from: usize) -> Head {
-    let format = format_of(call, s, from);
-    let width = named(s, format.at, names::WIDTH, 4294967295);
+    let format = named_if(call == names::WRITE, s, from, names::FORMAT, 255);
+    let width = named_if(
+        call != names::RULE_AT,
+        s,
+        format.at,
+        names::WIDTH,
+        4294967295,
+    );
     Head {
         format: (format.value % 256) as u8,
         width: (width.value % 4294967296) as u32,
@@ -60,17 +59,18 @@ fn head_of(call: usize, s: &[u8], from: usize) -> Head {
     }
 }
 
-fn format_of(call: usize, s: &[u8], from: usize) -> Taken {
-    if call == names::WRITE {
-        return named(s, from, names::FORMAT, 255);
+// The name of the first list that a call has.
+fn list_of(call: usize) -> usize {
+    match call {
+        names::COMPARE => names::OLD,
+        _ => names::LIST,
     }
-    Taken { value: 0, at: from }
 }
 
-// The calls that have `width` and then a list, which has this name.
-fn on_list(call: usize, name: usize, s: &[u8], from: usize, w: &[u8], to: usize) -> usize {
+// The calls that have a list.
+fn on_list(call: usize, s: &[u8], from: usize, w: &[u8], to: usize) -> usize {
     let h = head_of(call, s, from);
-    let l = given::read_list(s, h.at, name);
+    let l = given::read_list(s, h.at, list_of(call));
     let care = l.care;
     let value = l.value;
     let decision = l.decision;
@@ -98,20 +98,21 @@ fn with_list(
     w: &[u8],
     to: usize,
 ) -> usize {
-    if call == names::PREFIX_SWAP {
-        return swaps_calls::prefix_swap(s, at, h.width, care, value, decision, w, to);
+    match call {
+        names::PREFIX_SWAP => swaps_calls::show_swap(
+            w,
+            answer_at(s, at, to),
+            prefixes::prefix_swap(h.width, care, value, decision),
+        ),
+        names::RUNS => weaving_calls::cut(s, at, h.width, care, value, decision, w, to),
+        names::WEAVE => weaving_calls::weave(s, at, h.width, care, value, decision, w, to),
+        names::WRITE => {
+            image_calls::write(s, at, h.format, h.width, care, value, decision, w, to)
+        }
+        names::COMPARE => compare_calls::on_list(s, at, h.width, care, value, decision, w, to),
+        names::LOOKUP..=names::LOOKUP_SWAPPED => {
+            rules_calls::lookups(call, s, at, h.width, care, value, decision, w, to)
+        }
+        _ => rules_calls::on_list(call, s, at, h.width, care, value, decision, w, to),
     }
-    if call == names::RUNS {
-        return weaving_calls::cut(s, at, h.width, care, value, decision, w, to);
-    }
-    if call == names::WEAVE {
-        return weaving_calls::weave(s, at, h.width, care, value, decision, w, to);
-    }
-    if call == names::WRITE {
-        return image_calls::write(s, at, h.format, h.width, care, value, decision, w, to);
-    }
-    if call == names::COMPARE {
-        return compare_calls::on_list(s, at, h.width, care, value, decision, w, to);
-    }
-    rules_calls::on_list(call, s, at, h.width, care, value, decision, w, to)
 }

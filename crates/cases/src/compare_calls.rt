@@ -5,10 +5,9 @@ use crate::runs;
 use crate::runs::Runs;
 use crate::show;
 use crate::slices;
-use crate::source::Taken;
 use crate::source::answer_at;
 use crate::source::header;
-use crate::source::named;
+use crate::source::named_if;
 use rules::Wire;
 use words::Word;
 
@@ -114,20 +113,13 @@ fn compare_lists(
     )
 }
 
-// The `id` of a list, which `compare_lists` has after each image.
-fn id_of(call: usize, s: &[u8], from: usize) -> Taken {
-    if call == names::COMPARE_LISTS {
-        return named(s, from, names::ID, 65535);
-    }
-    Taken { value: 0, at: from }
-}
-
-// `old` and `new`, each with its `id` or without.
+// `old` and `new`, each with the `id` of its list in the call `compare_lists`.
 pub fn on_images(call: usize, s: &[u8], from: usize, w: &[u8], to: usize) -> usize {
+    let has_ids = call == names::COMPARE_LISTS;
     let o = given::read_bytes(s, from, names::OLD);
-    let old_id = id_of(call, s, o.at);
+    let old_id = named_if(has_ids, s, o.at, names::ID, 65535);
     let n = given::read_bytes(s, old_id.at, names::NEW);
-    let new_id = id_of(call, s, n.at);
+    let new_id = named_if(has_ids, s, n.at, names::ID, 65535);
     let old = o.bytes;
     let new = n.bytes;
     with_images(
@@ -135,9 +127,9 @@ pub fn on_images(call: usize, s: &[u8], from: usize, w: &[u8], to: usize) -> usi
         s,
         new_id.at,
         slices::bytes(&old, o.count),
-        old_id.value,
+        (old_id.value % 65536) as u16,
         slices::bytes(&new, n.count),
-        new_id.value,
+        (new_id.value % 65536) as u16,
         w,
         to,
     )
@@ -149,32 +141,21 @@ fn with_images(
     s: &[u8],
     from: usize,
     old: &[u8],
-    old_id: u64,
+    old_id: u16,
     new: &[u8],
-    new_id: u64,
+    new_id: u16,
     w: &[u8],
     to: usize,
 ) -> usize {
     let start = header(s, from, names::START);
     let r = runs::read_runs(s, start.at);
     let at = answer_at(s, r.at, to);
-    if call == names::COMPARE_FIRST {
-        return compare_first(old, new, start.word, r, w, at);
-    }
-    compare_by_id(
-        old,
-        (old_id % 65536) as u16,
-        new,
-        (new_id % 65536) as u16,
-        start.word,
-        r,
-        w,
-        at,
-    )
+    compare_images(call, old, old_id, new, new_id, start.word, r, w, at)
 }
 
-// The lists with these ids.
-fn compare_by_id(
+// The lists with these ids, or the first ones.
+fn compare_images(
+    call: usize,
     old_image: &[u8],
     old_id: u16,
     new_image: &[u8],
@@ -188,49 +169,26 @@ fn compare_by_id(
     let mut last = r.last;
     let mut old = r.old;
     let mut new = r.new;
-    let c = image_compare::compare_lists(
-        old_image,
-        old_id,
-        new_image,
-        new_id,
-        Wire(start),
-        slices::numbers_mut(&mut first, r.firsts),
-        slices::numbers_mut(&mut last, r.lasts),
-        slices::shorts_mut(&mut old, r.olds),
-        slices::shorts_mut(&mut new, r.news),
-    );
-    show::runs(
-        w,
-        show::compared(w, to, c),
-        slices::numbers(&first, r.firsts),
-        slices::numbers(&last, r.lasts),
-        slices::shorts(&old, r.olds),
-        slices::shorts(&new, r.news),
-    )
-}
-
-// The first lists.
-fn compare_first(
-    old_image: &[u8],
-    new_image: &[u8],
-    start: Word,
-    r: Runs,
-    w: &[u8],
-    to: usize,
-) -> usize {
-    let mut first = r.first;
-    let mut last = r.last;
-    let mut old = r.old;
-    let mut new = r.new;
-    let c = image_compare::compare_first(
-        old_image,
-        new_image,
-        Wire(start),
-        slices::numbers_mut(&mut first, r.firsts),
-        slices::numbers_mut(&mut last, r.lasts),
-        slices::shorts_mut(&mut old, r.olds),
-        slices::shorts_mut(&mut new, r.news),
-    );
+    let f = slices::numbers_mut(&mut first, r.firsts);
+    let l = slices::numbers_mut(&mut last, r.lasts);
+    let o = slices::shorts_mut(&mut old, r.olds);
+    let n = slices::shorts_mut(&mut new, r.news);
+    let c = match call {
+        names::COMPARE_FIRST => {
+            image_compare::compare_first(old_image, new_image, Wire(start), f, l, o, n)
+        }
+        _ => image_compare::compare_lists(
+            old_image,
+            old_id,
+            new_image,
+            new_id,
+            Wire(start),
+            f,
+            l,
+            o,
+            n,
+        ),
+    };
     show::runs(
         w,
         show::compared(w, to, c),

@@ -7,10 +7,50 @@ use crate::source::byte_from;
 use crate::source::is_bad;
 use crate::source::next;
 use crate::source::part;
+use crate::source::phrase_of;
 use crate::source::word_start;
 
-fn say(s: &[u8]) {
+// What is said of cases and files, each phrase with its number.
+const LINE: usize = 0;
+
+const ANSWERS: usize = 1;
+
+const NO_SUCH_CALL: usize = 2;
+
+const CANNOT_READ: usize = 3;
+
+const ENDS_TOO_SOON: usize = 4;
+
+const EXPECTED: usize = 5;
+
+const LINE_END: usize = 6;
+
+const COUNTS: usize = 7;
+
+const CASES: usize = 8;
+
+const FAILED: usize = 9;
+
+const NOT_OPENED: usize = 10;
+
+fn say(phrase: usize) {
+    let all: &[u8] =
+        b":| = |: no such call: |: cannot read on from: |: the case ends too soon|: another answer is expected: |\n|: | cases, | failed\n|: cannot be opened\n";
+    io::write_all(1, phrase_of(all, phrase));
+}
+
+// A number of a file between two phrases.
+fn say_number(path: &[u8], before: usize, number: u64, after: usize) {
+    io::write_all(1, path);
+    say(before);
+    io::print_decimal(1, number);
+    say(after);
+}
+
+// A text and a line end.
+fn say_line(s: &[u8]) {
     io::write_all(1, s);
+    say(LINE_END);
 }
 
 fn line_end(s: &[u8], at: usize) -> usize {
@@ -21,12 +61,9 @@ fn line_end(s: &[u8], at: usize) -> usize {
 fn case_end(s: &[u8], first_end: usize) -> usize {
     let mut end = first_end;
     let mut left = s.len();
-    while left > 0 {
-        left -= 1;
-        if byte(s, next(end)) != 32 {
-            return end;
-        }
+    while left > 0 && byte(s, next(end)) == 32 {
         end = line_end(s, next(end));
+        left -= 1;
     }
     end
 }
@@ -44,76 +81,76 @@ fn lines_in(s: &[u8], from: usize, end: usize) -> u64 {
     n
 }
 
-// A text and a line end.
-fn say_line(s: &[u8]) {
-    say(s);
-    say(b"\n");
-}
-
-// The place of a case, and what is said of it.
-fn say_of(path: &[u8], line: u64, said: &[u8]) {
-    say(path);
-    say(b":");
-    io::print_decimal(1, line);
-    say(said);
+// Why a case could not be read on from a position.
+fn reason(s: &[u8], end: usize, at: usize) -> usize {
+    if end == calls::UNKNOWN {
+        NO_SUCH_CALL
+    } else if at < s.len() {
+        CANNOT_READ
+    } else {
+        ENDS_TOO_SOON
+    }
 }
 
 // Why a case could not be read: from which word on.
 fn say_unread(path: &[u8], line: u64, s: &[u8], end: usize) {
-    if end == calls::UNKNOWN {
-        say_of(path, line, b": no such call: ");
-        say_word(s, 0);
-        return;
-    }
-    say_rest(path, line, s, word_start(s, end % 1099511627776));
-}
-
-fn say_rest(path: &[u8], line: u64, s: &[u8], at: usize) {
-    if at < s.len() {
-        say_of(path, line, b": cannot read on from: ");
-        say_word(s, at);
-        return;
-    }
-    say_of(path, line, b": the case ends too soon\n");
-}
-
-fn say_word(s: &[u8], from: usize) {
-    let at = word_start(s, from);
+    let at = word_start(s, end % 1099511627776);
+    say_number(path, LINE, line, reason(s, end, at));
     say_line(part(s, at, line_end(s, at)));
-}
-
-fn is_unread(n: usize) -> bool {
-    is_bad(n) && n < 2199023255552 || n == calls::UNKNOWN
 }
 
 // What a case answers.
 fn say_answer(path: &[u8], line: u64, s: &[u8], wanted: &[u8]) {
-    say_of(path, line, b" = ");
+    say_number(path, LINE, line, ANSWERS);
     calls::answered(s, wanted, show::ALOUD);
-    say(b"\n");
+    say(LINE_END);
 }
 
 fn say_wanted(path: &[u8], line: u64, wanted: &[u8]) {
-    say_of(path, line, b": another answer is expected: ");
+    say_number(path, LINE, line, EXPECTED);
     say_line(wanted);
+}
+
+// What came of a case: it could not be read, there is no answer beside it, or it answers as that says, or otherwise.
+enum Outcome {
+    Unread,
+    Open,
+    Same,
+    Other,
+}
+
+// By the position after its answer.
+fn judged(n: usize, wanted: &[u8], held: bool) -> Outcome {
+    if is_bad(n) && n < show::OTHERWISE {
+        Outcome::Unread
+    } else if !held {
+        Outcome::Open
+    } else if n == wanted.len() {
+        Outcome::Same
+    } else {
+        Outcome::Other
+    }
 }
 
 // Tries one case, and answers how many failed: 0 where it answers as the line beside it says, or there is no such line, else 1.
 fn try_case(path: &[u8], line: u64, s: &[u8], wanted: &[u8], held: bool) -> u64 {
     let n = calls::answered(s, wanted, 0);
-    if held && n == wanted.len() {
-        return 0;
+    match judged(n, wanted, held) {
+        Outcome::Unread => {
+            say_unread(path, line, s, n);
+            1
+        }
+        Outcome::Open => {
+            say_answer(path, line, s, wanted);
+            0
+        }
+        Outcome::Same => 0,
+        Outcome::Other => {
+            say_answer(path, line, s, wanted);
+            say_wanted(path, line, wanted);
+            1
+        }
     }
-    if is_unread(n) {
-        say_unread(path, line, s, n);
-        return 1;
-    }
-    say_answer(path, line, s, wanted);
-    if held {
-        say_wanted(path, line, wanted);
-        return 1;
-    }
-    0
 }
 
 // How far a file has been read: the position, the number of the line there, and how many cases there were and failed.
@@ -124,80 +161,48 @@ struct Tried {
     failed: u64,
 }
 
-fn counted(t: Tried, s: &[u8], end: usize, failed: u64) -> Tried {
+fn counted(t: Tried, end: usize, lines: u64, cases: u64, failed: u64) -> Tried {
     Tried {
         at: end,
-        line: std::num::wrapping_add_u64(t.line, lines_in(s, t.at, end)),
-        cases: std::num::wrapping_add_u64(t.cases, 1),
+        line: std::num::wrapping_add_u64(t.line, lines),
+        cases: std::num::wrapping_add_u64(t.cases, cases),
         failed: std::num::wrapping_add_u64(t.failed, failed),
     }
 }
 
-// An empty line, or one that starts with #.
-fn is_remark(s: &[u8], at: usize) -> bool {
-    byte(s, at) == 10 || byte(s, at) == 35
+// Where the answer beside a case ends that ends here, or the case itself, where it has none.
+fn answer_end(s: &[u8], end: usize, held: bool) -> usize {
+    if held { line_end(s, next(end)) } else { end }
 }
 
-// A line that is a remark is passed over.
-fn passed_over(t: Tried, end: usize) -> Tried {
-    Tried {
-        at: end,
-        line: std::num::wrapping_add_u64(t.line, 1),
-        cases: t.cases,
-        failed: t.failed,
-    }
-}
-
-// Tries the case that ends here, with the answer on the line below it.
-fn try_held(path: &[u8], s: &[u8], t: Tried, end: usize) -> Tried {
-    let beside = next(end);
-    let answer_end = line_end(s, beside);
-    let wanted = part(s, next(next(beside)), answer_end);
-    let failed = try_case(path, t.line, part(s, t.at, end), wanted, true);
-    counted(t, s, next(answer_end), failed)
-}
-
-// Passes over a remark, or tries the case that starts here.
-fn try_next(path: &[u8], s: &[u8], t: Tried) -> Tried {
-    let first_end = line_end(s, t.at);
-    if is_remark(s, t.at) {
-        return passed_over(t, next(first_end));
-    }
+// Tries the case that starts here and ends in this line or a later one.
+fn try_here(path: &[u8], s: &[u8], t: Tried, first_end: usize) -> Tried {
     let end = case_end(s, first_end);
-    if byte(s, next(end)) == 61 {
-        return try_held(path, s, t, end);
-    }
-    let failed = try_case(path, t.line, part(s, t.at, end), b"", false);
-    counted(t, s, next(end), failed)
+    let held = byte(s, next(end)) == 61;
+    let last = answer_end(s, end, held);
+    let wanted = part(s, next(next(next(end))), last);
+    let failed = try_case(path, t.line, part(s, t.at, end), wanted, held);
+    counted(t, next(last), lines_in(s, t.at, next(last)), 1, failed)
 }
 
-// Tries the cases that stand in a part of a file: all of them where it is the last part, else those before its last 131,072 bytes.
-fn try_part(path: &[u8], s: &[u8], from: Tried, last: bool) -> Tried {
+// Passes over a remark, which is an empty line or starts with #, or tries the case that starts here.
+fn try_next(path: &[u8], s: &[u8], t: Tried) -> Tried {
+    let end = line_end(s, t.at);
+    match byte(s, t.at) {
+        10 | 35 => counted(t, next(end), 1, 0, 0),
+        _ => try_here(path, s, t, end),
+    }
+}
+
+// Tries the cases that start before a position.
+fn try_part(path: &[u8], s: &[u8], from: Tried, end: usize) -> Tried {
     let mut t = from;
     let mut left = s.len();
-    while left > 0 {
+    while left > 0 && t.at < end {
+        t = try_next(path, s, t);
         left -= 1;
-        if is_whole(s.len(), t.at, last) {
-            t = try_next(path, s, t);
-        }
     }
     t
-}
-
-fn is_whole(length: usize, at: usize, last: bool) -> bool {
-    if at < length {
-        return last || length - at >= 131072;
-    }
-    false
-}
-
-fn say_count(path: &[u8], cases: u64, failed: u64) {
-    say(path);
-    say(b": ");
-    io::print_decimal(1, cases);
-    say(b" cases, ");
-    io::print_decimal(1, failed);
-    say(b" failed\n");
 }
 
 // Moves what stands from `from` to `end` to the front, and answers how much that is.
@@ -212,22 +217,20 @@ fn keep(s: &mut [u8], from: usize, end: usize) -> usize {
     i
 }
 
-// Reads on behind what is held, and answers how much is held then.
-fn read_on(file: i32, s: &mut [u8], held: usize) -> usize {
-    if held <= s.len() {
-        let got = io::read_full(file, &mut s[held..]);
-        return std::num::wrapping_add_usize(held, got);
+// Drops what stands before `from` of what is held, reads on behind the rest, and answers how much is held then.
+fn read_on(file: i32, s: &mut [u8], from: usize, held: usize) -> usize {
+    let kept = keep(s, from, held);
+    if kept <= s.len() {
+        let got = io::read_full(file, &mut s[kept..]);
+        std::num::wrapping_add_usize(kept, got)
+    } else {
+        kept
     }
-    held
 }
 
-fn at_front(t: Tried) -> Tried {
-    Tried {
-        at: 0,
-        line: t.line,
-        cases: t.cases,
-        failed: t.failed,
-    }
+// Before which position of a part of a file cases are tried: all where it is the last part, else those that have 131,072 bytes.
+fn whole(held: usize) -> usize {
+    if held < 262144 { held } else { 131073 }
 }
 
 // Tries the cases of an open file, part by part.
@@ -240,33 +243,35 @@ fn try_parts(path: &[u8], file: i32) -> Tried {
         cases: 0,
         failed: 0,
     };
-    let mut held = 0;
+    let mut held = read_on(file, all, 0, 0);
     let mut left: usize = 1000000;
-    while left > 0 {
+    while left > 0 && held > 0 {
         left -= 1;
-        held = read_on(file, all, held);
-        if held == 0 {
-            return t;
-        }
-        t = try_part(path, slices::bytes(all, held), t, held < 262144);
-        held = keep(all, t.at, held);
-        t = at_front(t);
+        t = try_part(path, slices::bytes(all, held), t, whole(held));
+        held = read_on(file, all, t.at, held);
+        t.at = 0;
     }
     t
+}
+
+fn say_count(path: &[u8], cases: u64, failed: u64) {
+    say_number(path, COUNTS, cases, CASES);
+    io::print_decimal(1, failed);
+    say(FAILED);
 }
 
 // Tries the cases of a file, and says how many there were. A file that is not there counts as a case that failed.
 fn try_path(path: &[u8]) {
     let file = os::open_read(path);
     if file < 0 {
-        say(path);
-        say(b": cannot be opened\n");
+        io::write_all(1, path);
+        say(NOT_OPENED);
         say_count(path, 0, 1);
-        return;
+    } else {
+        let t = try_parts(path, file);
+        libc::close(file);
+        say_count(path, t.cases, t.failed);
     }
-    let t = try_parts(path, file);
-    libc::close(file);
-    say_count(path, t.cases, t.failed);
 }
 
 // Tries the file that argument i names.

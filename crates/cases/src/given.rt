@@ -10,6 +10,7 @@ use crate::source::Taken;
 use crate::source::after;
 use crate::source::bad;
 use crate::source::bracket;
+use crate::source::byte;
 use crate::source::byte_from;
 use crate::source::is_bad;
 use crate::source::is_closed;
@@ -17,7 +18,6 @@ use crate::source::is_next;
 use crate::source::next;
 use crate::source::number;
 use crate::source::number_in;
-use crate::source::part;
 use crate::source::word_end;
 use crate::source::word_in;
 use crate::source::word_start;
@@ -35,25 +35,22 @@ fn times(s: &[u8], from: usize) -> Taken {
     let at = word_start(s, from);
     if is_next(s, word_end(s, at), TIMES) {
         let n = number(s, at, 100000);
-        return Taken {
+        Taken {
             value: n.value,
             at: after(s, n.at, TIMES),
-        };
+        }
+    } else {
+        Taken { value: 1, at }
     }
-    Taken { value: 1, at }
 }
 
 // The position `end` after an item, where the slice has so many more places; else a bad one at the item's start.
 fn room(count: usize, more: u64, length: usize, start: usize, end: usize) -> usize {
-    if count <= length {
-        if more <= (length - count) as u64 {
-            return end;
-        }
+    if is_bad(end) || count <= length && more <= (length - count) as u64 {
+        end
+    } else {
+        bad(start)
     }
-    if is_bad(end) {
-        return end;
-    }
-    bad(start)
 }
 
 // What follows a number of a slice: itself, the next number, or what is left of it above its lowest byte, which alone is lent of it.
@@ -82,39 +79,33 @@ struct Item {
     at: usize,
 }
 
-fn no_item(start: usize) -> Item {
+fn item_of(value: Word, times: u64, way: Way, at: usize) -> Item {
     Item {
-        value: words::wide(0),
-        times: 0,
-        way: Way::Same,
-        at: bad(start),
+        value,
+        times,
+        way,
+        at,
     }
+}
+
+fn no_item(start: usize) -> Item {
+    item_of(words::wide(0), 0, Way::Same, bad(start))
 }
 
 // `12:4`: a number in so many bytes, the lowest first, which has to fit. Only a slice of bytes has it.
 fn in_bytes(s: &[u8], from: usize, colon: usize, end: usize, bits: u32) -> Item {
     let x = word_in(s, from, colon, 128);
-    let value = x.word;
     let n = number_in(s, next(colon), end, 16);
-    if bits == 8 {
-        if !is_bad(x.at) && words::below(value, bits_of(n.value)) {
-            return Item {
-                value,
-                times: n.value,
-                way: Way::Bytes,
-                at: n.at,
-            };
-        }
+    if bits == 8 && !is_bad(x.at) && words::below(x.word, bits_of(n.value)) {
+        item_of(x.word, n.value, Way::Bytes, n.at)
+    } else {
+        no_item(from)
     }
-    no_item(from)
 }
 
 // How many bits so many bytes have.
 fn bits_of(bytes: u64) -> u32 {
-    if bytes <= 16 {
-        return bytes as u32 * 8;
-    }
-    0
+    if bytes <= 16 { bytes as u32 * 8 } else { 0 }
 }
 
 // `2 to 9`: each number from the first to the last, which less the first is how many more there are: the first is added to the last turned
@@ -122,57 +113,45 @@ fn bits_of(bytes: u64) -> u32 {
 fn counted_up(s: &[u8], first: Word, at: usize, bits: u32) -> Item {
     let from = word_start(s, after(s, at, TO));
     let last = word_in(s, from, word_end(s, from), bits);
-    if words::less(last.word, first) {
-        return no_item(at);
-    }
     let more = words::capped(bits::flip(words::plus(bits::flip(last.word), first)));
-    if more < 100000 {
-        return Item {
-            value: first,
-            times: more + 1,
-            way: Way::Up,
-            at: last.at,
-        };
+    if more < 100000 && !words::less(last.word, first) {
+        item_of(first, more + 1, Way::Up, last.at)
+    } else {
+        no_item(at)
     }
-    no_item(at)
+}
+
+// One number, or the first of those that `to` counts up.
+fn once(s: &[u8], at: usize, end: usize, bits: u32) -> Item {
+    let n = word_in(s, at, end, bits);
+    if is_next(s, end, TO) && !is_bad(n.at) {
+        counted_up(s, n.word, end, bits)
+    } else {
+        item_of(n.word, 1, Way::Same, n.at)
+    }
 }
 
 // What stands here, where it is said once.
-fn once(s: &[u8], at: usize, end: usize, bits: u32) -> Item {
+fn said_once(s: &[u8], at: usize, bits: u32) -> Item {
+    let end = word_end(s, at);
     let colon = byte_from(s, at, end, 58);
     if colon < end {
-        return in_bytes(s, at, colon, end, bits);
-    }
-    let n = word_in(s, at, end, bits);
-    let value = n.word;
-    if is_next(s, end, TO) && !is_bad(n.at) {
-        return counted_up(s, value, end, bits);
-    }
-    Item {
-        value,
-        times: 1,
-        way: Way::Same,
-        at: n.at,
+        in_bytes(s, at, colon, end, bits)
+    } else {
+        once(s, at, end, bits)
     }
 }
 
 // The next numbers. `times` stands before one number alone.
 fn next_item(s: &[u8], from: usize, bits: u32) -> Item {
     let t = times(s, from);
-    let at = word_start(s, t.at);
-    let x = once(s, at, word_end(s, at), bits);
+    let x = said_once(s, word_start(s, t.at), bits);
     if t.value == 1 {
-        return x;
-    }
-    if x.times != 1 {
-        return no_item(from);
-    }
-    let value = x.value;
-    Item {
-        value,
-        times: t.value,
-        way: Way::Same,
-        at: x.at,
+        x
+    } else if x.times == 1 {
+        item_of(x.value, t.value, Way::Same, x.at)
+    } else {
+        no_item(from)
     }
 }
 
@@ -190,39 +169,67 @@ fn put_numbers(out: &mut [u64], from: usize, value: Word, times: u64, way: Way) 
     i
 }
 
-// Reads the next item into the places from `count` on.
-fn put_item(s: &[u8], at: usize, bits: u32, out: &mut [u64], count: usize) -> Filled {
-    let x = next_item(s, at, bits);
-    let end = room(count, x.times, out.len() / 2, at, x.at);
-    if is_bad(end) {
-        return Filled { count, at: end };
-    }
+// Reads the next item into the places after those that are filled.
+fn put_item(s: &[u8], f: Filled, bits: u32, out: &mut [u64]) -> Filled {
+    let x = next_item(s, f.at, bits);
     let way = x.way;
-    let n = put_numbers(out, count, x.value, x.times, way);
-    Filled { count: n, at: end }
+    Filled {
+        count: put_numbers(out, f.count, x.value, x.times, way),
+        at: room(f.count, x.times, out.len() / 2, f.at, x.at),
+    }
 }
 
-// The numbers after a bracket, each below 2^bits, put as words at the start of `out`, up to the other bracket or the word `half`.
-fn words_after(s: &[u8], from: usize, bits: u32, out: &mut [u64]) -> Filled {
-    let mut at = bracket(s, from, 91);
-    let mut count = 0;
-    let mut left = s.len();
-    while left > 0 {
-        left -= 1;
-        if is_bad(at) {
-            return Filled { count: 0, at };
-        }
-        if is_closed(s, at) || is_next(s, at, HALF) {
-            return Filled { count, at };
-        }
-        let f = put_item(s, at, bits, out, count);
-        at = f.at;
-        count = f.count;
-    }
+// The same of rules, each of which is put as four words: its care, its value, its decision, and 0.
+fn put_rule(s: &[u8], f: Filled, out: &mut [u64]) -> Filled {
+    let t = times(s, f.at);
+    let r = rule(s, t.at);
     Filled {
-        count: 0,
-        at: bad(at),
+        count: put_rules(out, f.count, r.rule, t.value),
+        at: room(f.count / 4, t.value, out.len() / 8, f.at, r.at),
     }
+}
+
+fn put_rules(out: &mut [u64], from: usize, rule: Rule, times: u64) -> usize {
+    let mut i = from;
+    let mut left = times;
+    while left > 0 {
+        words::put_word(out, i, rule.care);
+        words::put_word(out, next(i), rule.value);
+        words::put_word(out, next(next(i)), words::wide(rule.decision as u64));
+        i = std::num::wrapping_add_usize(i, 4);
+        left -= 1;
+    }
+    i
+}
+
+// What stands for `bits` where rules are read.
+const RULES: u32 = 0;
+
+fn put_next(s: &[u8], f: Filled, bits: u32, out: &mut [u64]) -> Filled {
+    match bits {
+        RULES => put_rule(s, f, out),
+        _ => put_item(s, f, bits, out),
+    }
+}
+
+// Whether there is more to read before the other bracket or the word `half`.
+fn is_more(s: &[u8], at: usize) -> bool {
+    !is_bad(at) && !is_closed(s, at) && !is_next(s, at, HALF)
+}
+
+// The numbers after a bracket, each below 2^bits, or rules, put as words at the start of `out`, up to the other bracket or the word
+// `half`.
+fn words_after(s: &[u8], from: usize, bits: u32, out: &mut [u64]) -> Filled {
+    let mut f = Filled {
+        count: 0,
+        at: bracket(s, from, 91),
+    };
+    let mut left = s.len();
+    while left > 0 && is_more(s, f.at) {
+        f = put_next(s, f, bits, out);
+        left -= 1;
+    }
+    f
 }
 
 // The numbers in brackets, each below 2^bits, put as words at the start of `out`.
@@ -239,16 +246,21 @@ fn lent(s: &[u8], from: usize, out: &mut [u64]) -> Filled {
     let f = words_after(s, from, 128, out);
     let count = std::num::wrapping_add_usize(f.count, f.count);
     if is_next(s, f.at, HALF) {
-        let half = number(s, after(s, f.at, HALF), 18446744073709551615);
-        slices::put_number(out, count, half.value);
-        return Filled {
-            count: next(count),
-            at: room(count, 1, out.len(), f.at, bracket(s, half.at, 93)),
-        };
+        with_half(s, f.at, count, out)
+    } else {
+        Filled {
+            count,
+            at: bracket(s, f.at, 93),
+        }
     }
+}
+
+fn with_half(s: &[u8], from: usize, count: usize, out: &mut [u64]) -> Filled {
+    let half = number(s, after(s, from, HALF), 18446744073709551615);
+    slices::put_number(out, count, half.value);
     Filled {
-        count,
-        at: bracket(s, f.at, 93),
+        count: next(count),
+        at: room(count, 1, out.len(), from, bracket(s, half.at, 93)),
     }
 }
 
@@ -278,9 +290,8 @@ pub struct Shorts {
 
 pub fn read_shorts(s: &[u8], from: usize, name: usize) -> Shorts {
     let mut wide = [0u64; 8224];
-    let mut numbers = [0u16; 4112];
     let f = words_to(s, after(s, from, name), 16, &mut wide);
-    slices::to_shorts(&wide, f.count, &mut numbers);
+    let numbers = slices::shorts_of(&wide, 0, 1, f.count);
     Shorts {
         numbers,
         count: f.count,
@@ -333,122 +344,61 @@ fn rule_of(care: Word, value: Word, decision: u64, at: usize) -> Ruled {
     }
 }
 
-// No rule, and a bad position.
-fn no_rule(at: usize) -> Ruled {
-    rule_of(words::wide(0), words::wide(0), 0, bad(at))
-}
-
 // The care word and the value word of a pattern, by place: `0` and `1` are cared for, `*` is not.
 fn pattern(s: &[u8], from: usize, end: usize) -> Ruled {
-    let word = part(s, from, end);
-    if word.len() > 128 {
-        return no_rule(from);
-    }
     let mut care = words::wide(0);
     let mut value = words::wide(0);
-    let mut i = 0;
-    while i < word.len() {
-        let b = word[i];
-        if b != 42 && b != 48 && b != 49 {
-            return no_rule(from);
-        }
-        care = words::pushed(care, place(b != 42));
-        value = words::pushed(value, place(b == 49));
-        i += 1;
+    let mut at = from;
+    while at < end && is_place(byte(s, at)) {
+        care = words::pushed(care, place(byte(s, at) != 42));
+        value = words::pushed(value, place(byte(s, at) == 49));
+        at += 1;
     }
-    rule_of(care, value, 0, end)
+    rule_of(care, value, 0, pattern_end(from, at, end))
+}
+
+fn is_place(b: u8) -> bool {
+    b == 42 || b == 48 || b == 49
 }
 
 fn place(set: bool) -> u64 {
     if set { 1 } else { 0 }
 }
 
-// A pattern, or the two words themselves as `care/value`, and then the decision.
+// The end of a pattern that was read up to a position; a bad one where that is not all of it, or it has more than 128 places.
+fn pattern_end(from: usize, at: usize, end: usize) -> usize {
+    if at == end && std::num::wrapping_sub_usize(end, from) <= 128 {
+        end
+    } else {
+        bad(from)
+    }
+}
+
+// The two words themselves as `care/value`.
+fn two_words(s: &[u8], from: usize, slash: usize, end: usize) -> Ruled {
+    let care = word_in(s, from, slash, 128);
+    let value = word_in(s, next(slash), end, 128);
+    rule_of(
+        care.word,
+        value.word,
+        0,
+        if is_bad(care.at) { care.at } else { value.at },
+    )
+}
+
+// A pattern or two words, and then the decision.
 fn rule(s: &[u8], from: usize) -> Ruled {
     let at = word_start(s, from);
     let end = word_end(s, at);
     let slash = byte_from(s, at, end, 47);
-    if slash < end {
-        let care = word_in(s, at, slash, 128);
-        let value = word_in(s, next(slash), end, 128);
-        if is_bad(care.at) {
-            return no_rule(care.at);
-        }
-        let decision = number(s, value.at, 65535);
-        return rule_of(care.word, value.word, decision.value, decision.at);
-    }
-    let p = pattern(s, at, end);
+    let p = if slash < end {
+        two_words(s, at, slash, end)
+    } else {
+        pattern(s, at, end)
+    };
     let decision = number(s, p.at, 65535);
     let r = p.rule;
     rule_of(r.care, r.value, decision.value, decision.at)
-}
-
-fn put_rules(
-    care: &mut [u64],
-    value: &mut [u64],
-    decision: &mut [u16],
-    from: usize,
-    rule: Rule,
-    times: u64,
-) -> usize {
-    let mut i = from;
-    let mut left = times;
-    while left > 0 {
-        rules::put_rule(care, value, decision, i, rule);
-        i = next(i);
-        left -= 1;
-    }
-    i
-}
-
-fn put_rule(
-    s: &[u8],
-    at: usize,
-    care: &mut [u64],
-    value: &mut [u64],
-    decision: &mut [u16],
-    count: usize,
-) -> Filled {
-    let t = times(s, at);
-    let r = rule(s, t.at);
-    let end = room(count, t.value, decision.len(), at, r.at);
-    if is_bad(end) {
-        return Filled { count, at: end };
-    }
-    let n = put_rules(care, value, decision, count, r.rule, t.value);
-    Filled { count: n, at: end }
-}
-
-// The rules in brackets, put at the start of three slices that belong together.
-fn rules_in(
-    s: &[u8],
-    from: usize,
-    care: &mut [u64],
-    value: &mut [u64],
-    decision: &mut [u16],
-) -> Filled {
-    let mut at = bracket(s, from, 91);
-    let mut count = 0;
-    let mut left = s.len();
-    while left > 0 {
-        left -= 1;
-        if is_bad(at) {
-            return Filled { count: 0, at };
-        }
-        if is_closed(s, at) {
-            return Filled {
-                count,
-                at: bracket(s, at, 93),
-            };
-        }
-        let f = put_rule(s, at, care, value, decision, count);
-        at = f.at;
-        count = f.count;
-    }
-    Filled {
-        count: 0,
-        at: bad(at),
-    }
 }
 
 // A list: its three slices, how many numbers each of them has, and the position after it.
@@ -482,18 +432,21 @@ fn by_slices(s: &[u8], from: usize) -> List {
 }
 
 fn by_rules(s: &[u8], from: usize) -> List {
-    let mut care = [0u64; 8224];
-    let mut value = [0u64; 8224];
-    let mut decision = [0u16; 4112];
-    let f = rules_in(s, from, &mut care, &mut value, &mut decision);
-    let twice = std::num::wrapping_add_usize(f.count, f.count);
+    let mut numbers = [0u64; 32896];
+    let f = words_to(s, from, RULES, &mut numbers);
+    let all: &[u64] = &numbers;
+    let count = f.count / 4;
+    let twice = std::num::wrapping_add_usize(count, count);
+    let care = slices::words_of(all, 0, count);
+    let value = slices::words_of(all, 1, count);
+    let decision = slices::shorts_of(all, 2, 4, count);
     List {
         care,
         value,
         decision,
         cares: twice,
         values: twice,
-        decisions: f.count,
+        decisions: count,
         at: f.at,
     }
 }
@@ -502,9 +455,10 @@ fn by_rules(s: &[u8], from: usize) -> List {
 pub fn read_list(s: &[u8], from: usize, name: usize) -> List {
     let at = after(s, from, name);
     if is_next(s, at, CARE) {
-        return by_slices(s, at);
+        by_slices(s, at)
+    } else {
+        by_rules(s, at)
     }
-    by_rules(s, at)
 }
 
 // An argument that is one rule in brackets.

@@ -4,6 +4,7 @@ use crate::given::List;
 use crate::names;
 use crate::show;
 use crate::slices;
+use crate::source::Taken;
 use crate::source::answer_at;
 use crate::source::named;
 use crate::weaving_calls;
@@ -20,7 +21,7 @@ fn show_outcome(w: &[u8], to: usize, o: Outcome) -> usize {
 fn show_listed(w: &[u8], to: usize, l: Listed) -> usize {
     match l {
         Listed::List { id, rules } => {
-            let at = show::glyph(w, show::named(w, to, show::ID, id as u64), 32);
+            let at = show::named(w, to, show::ID, id as u64);
             show::named(w, at, show::RULES, rules as u64)
         }
         Listed::Refused(x) => show::refusal(w, to, x),
@@ -34,57 +35,31 @@ pub fn on_image(call: usize, s: &[u8], from: usize, w: &[u8], to: usize) -> usiz
     with_image(call, slices::bytes(&bytes, b.count), s, b.at, w, to)
 }
 
-fn with_image(call: usize, image: &[u8], s: &[u8], at: usize, w: &[u8], to: usize) -> usize {
-    if call == names::ENTRY {
-        return entry(image, s, at, w, to);
+fn with_image(call: usize, image: &[u8], s: &[u8], from: usize, w: &[u8], to: usize) -> usize {
+    let n = number_of(call, s, from);
+    let id = (n.value % 65536) as u16;
+    let at = answer_at(s, n.at, to);
+    match call {
+        names::CHECK => show::verdict(w, at, image::check(image)),
+        names::WIDTH => show_outcome(w, at, image::width(image)),
+        names::FORMAT => show_outcome(w, at, image::format(image)),
+        names::COUNT => show_outcome(w, at, image::count(image)),
+        names::ENTRY => show_listed(w, at, image::entry(image, n.value as usize)),
+        names::BODY => show::bytes(w, at, image::body(image, id)),
+        names::BODY_REFUSAL => show::verdict(w, at, image::body_refusal(image, id)),
+        names::TALLY => weaving_calls::show_woven(w, at, image_weaving::tally(image, id)),
+        names::READ => read(image, id, s, n.at, w, to),
+        _ => weave(image, s, n.at, w, to),
     }
-    if call == names::READ {
-        return read(image, s, at, w, to);
-    }
-    if call == names::WEAVE_IMAGE {
-        return weave(image, s, at, w, to);
-    }
-    if call >= names::BODY {
-        return by_id(call, image, s, at, w, to);
-    }
-    whole(call, image, w, answer_at(s, at, to))
 }
 
-fn whole(call: usize, image: &[u8], w: &[u8], to: usize) -> usize {
-    if call == names::CHECK {
-        return show::verdict(w, to, image::check(image));
+// The number after an image: which entry, counted from 1, or the `id` of a list.
+fn number_of(call: usize, s: &[u8], from: usize) -> Taken {
+    match call {
+        names::ENTRY => named(s, from, names::NUMBER, 18446744073709551615),
+        names::BODY..=names::READ => named(s, from, names::ID, 65535),
+        _ => Taken { value: 0, at: from },
     }
-    if call == names::WIDTH {
-        return show_outcome(w, to, image::width(image));
-    }
-    if call == names::FORMAT {
-        return show_outcome(w, to, image::format(image));
-    }
-    show_outcome(w, to, image::count(image))
-}
-
-// `number`: which entry, counted from 1.
-fn entry(image: &[u8], s: &[u8], from: usize, w: &[u8], to: usize) -> usize {
-    let number = named(s, from, names::NUMBER, 18446744073709551615);
-    show_listed(
-        w,
-        answer_at(s, number.at, to),
-        image::entry(image, number.value as usize),
-    )
-}
-
-// `id`: of which list.
-fn by_id(call: usize, image: &[u8], s: &[u8], from: usize, w: &[u8], to: usize) -> usize {
-    let id = named(s, from, names::ID, 65535);
-    let i = (id.value % 65536) as u16;
-    let at = answer_at(s, id.at, to);
-    if call == names::BODY {
-        return show::bytes(w, at, image::body(image, i));
-    }
-    if call == names::TALLY {
-        return weaving_calls::show_woven(w, at, image_weaving::tally(image, i));
-    }
-    show::verdict(w, at, image::body_refusal(image, i))
 }
 
 // The width as an image says it, for patterns; 0 where it says none.
@@ -98,16 +73,15 @@ fn width_of(image: &[u8]) -> u32 {
     0
 }
 
-// `id`, and `into`: the list that takes the rules.
-fn read(image: &[u8], s: &[u8], from: usize, w: &[u8], to: usize) -> usize {
-    let id = named(s, from, names::ID, 65535);
-    let l = given::read_list(s, id.at, names::INTO);
+// `into`: the list that takes the rules.
+fn read(image: &[u8], id: u16, s: &[u8], from: usize, w: &[u8], to: usize) -> usize {
+    let l = given::read_list(s, from, names::INTO);
     let mut care = l.care;
     let mut value = l.value;
     let mut decision = l.decision;
     let o = image::read(
         image,
-        (id.value % 65536) as u16,
+        id,
         slices::numbers_mut(&mut care, l.cares),
         slices::numbers_mut(&mut value, l.values),
         slices::shorts_mut(&mut decision, l.decisions),
@@ -115,8 +89,7 @@ fn read(image: &[u8], s: &[u8], from: usize, w: &[u8], to: usize) -> usize {
     let answer = show_outcome(w, answer_at(s, l.at, to), o);
     show::list(
         w,
-        show::glyph(w, answer, 32),
-        show::INTO,
+        show::phrase(w, answer, show::INTO),
         width_of(image),
         List {
             care,
@@ -171,6 +144,6 @@ fn weave(image: &[u8], s: &[u8], from: usize, w: &[u8], to: usize) -> usize {
 
 // The answer of a call that makes an image, and the bytes that were lent for it.
 fn show_image(w: &[u8], to: usize, o: Outcome, bytes: &[u8]) -> usize {
-    let into = show::and_word(w, show_outcome(w, to, o), show::INTO);
-    show::bytes(w, show::glyph(w, into, 32), bytes)
+    let into = show::phrase(w, show_outcome(w, to, o), show::INTO);
+    show::bytes(w, into, bytes)
 }

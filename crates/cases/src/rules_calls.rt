@@ -4,20 +4,21 @@ use crate::given::List;
 use crate::names;
 use crate::show;
 use crate::slices;
+use crate::source::Taken;
 use crate::source::after;
 use crate::source::answer_at;
 use crate::source::named;
+use crate::source::named_if;
 use crate::swaps_calls;
 use rules::Looked;
-use rules::Rule;
 use rules::Wire;
 use words::Word;
 
-// The calls that have a width and a list; `at` is the position after these.
+// The calls that have a list, and most of them a number after it: `as` or `place`, which is counted from 0.
 pub fn on_list(
     call: usize,
     s: &[u8],
-    at: usize,
+    from: usize,
     width: u32,
     care: &[u64],
     value: &[u64],
@@ -25,20 +26,32 @@ pub fn on_list(
     w: &[u8],
     to: usize,
 ) -> usize {
-    if call == names::CHECK_LIST {
-        let v = rules::check_list(width, care, value, decision);
-        return show::verdict(w, answer_at(s, at, to), v);
+    let n = number_of(call, s, from);
+    let at = answer_at(s, n.at, to);
+    let number = n.value as usize;
+    match call {
+        names::CHECK_LIST => {
+            show::verdict(w, at, rules::check_list(width, care, value, decision))
+        }
+        names::CHECK_LIST_AS => show::verdict(
+            w,
+            at,
+            rules::check_list_as(number, width, care, value, decision),
+        ),
+        _ => show::rule(w, at, 0, rules::rule_at(care, value, decision, number)),
     }
-    if call == names::CHECK_LIST_AS {
-        let list = named(s, at, names::AS, 18446744073709551615);
-        let v = rules::check_list_as(list.value as usize, width, care, value, decision);
-        return show::verdict(w, answer_at(s, list.at, to), v);
+}
+
+fn number_of(call: usize, s: &[u8], from: usize) -> Taken {
+    match call {
+        names::CHECK_LIST_AS => named(s, from, names::AS, 18446744073709551615),
+        names::RULE_AT => named(s, from, names::PLACE, 18446744073709551615),
+        _ => Taken { value: 0, at: from },
     }
-    lookups(call, s, at, width, care, value, decision, w, to)
 }
 
 // `headers`: each of them is looked up.
-fn lookups(
+pub fn lookups(
     call: usize,
     s: &[u8],
     at: usize,
@@ -72,13 +85,11 @@ fn looked(
     decision: &[u16],
     header: Word,
 ) -> Looked {
-    if call == names::LOOKUP_SWAPPED {
-        return swaps_calls::looked(width, care, value, decision, header);
+    match call {
+        names::LOOKUP_SWAPPED => swaps_calls::looked(width, care, value, decision, header),
+        names::LOOKUP_NUMBER => rules::lookup_number(width, care, value, decision, header),
+        _ => rules::lookup(width, care, value, decision, Wire(header)),
     }
-    if call == names::LOOKUP_NUMBER {
-        return rules::lookup_number(width, care, value, decision, header);
-    }
-    rules::lookup(width, care, value, decision, Wire(header))
 }
 
 fn look_up(
@@ -95,7 +106,7 @@ fn look_up(
     let mut at = to;
     let mut i = 0;
     while i < count {
-        at = show::between(w, at, i, true);
+        at = show::between(w, at, i, show::COMMA);
         let l = looked(
             call,
             width,
@@ -112,76 +123,43 @@ fn look_up(
 
 // The calls that have rules and no list: all that are handed in stand in brackets after the name of the argument.
 pub fn on_rules(call: usize, s: &[u8], from: usize, w: &[u8], to: usize) -> usize {
-    if call == names::CHECK_RULE {
-        return check_rule(s, from, w, to);
+    let width = named_if(
+        call != names::RULE_COVERS && call != names::RULE_CROSSES,
+        s,
+        from,
+        names::WIDTH,
+        4294967295,
+    );
+    let places = (width.value % 4294967296) as u32;
+    match call {
+        names::CHECK_RULE => check_rule(places, s, width.at, w, to),
+        _ => pair(call, places, s, width.at, w, to),
     }
-    if call == names::RULE_AT {
-        return rule_at(s, from, w, to);
-    }
-    if call == names::PUT_RULE {
-        return put_rule(s, from, w, to);
-    }
-    if call <= names::RULE_CROSSES {
-        return pair(call, 0, s, from, w, to);
-    }
-    let width = named(s, from, names::WIDTH, 4294967295);
-    pair(call, (width.value % 4294967296) as u32, s, width.at, w, to)
 }
 
-fn check_rule(s: &[u8], from: usize, w: &[u8], to: usize) -> usize {
-    let width = named(s, from, names::WIDTH, 4294967295);
-    let list = named(s, width.at, names::LIST, 18446744073709551615);
+fn check_rule(width: u32, s: &[u8], from: usize, w: &[u8], to: usize) -> usize {
+    let list = named(s, from, names::LIST, 18446744073709551615);
     let number = named(s, list.at, names::NUMBER, 18446744073709551615);
     let r = given::one_rule(s, number.at, names::RULE);
-    let v = rules::check_rule(
-        (width.value % 4294967296) as u32,
-        list.value as usize,
-        number.value as usize,
-        r.rule,
-    );
+    let v = rules::check_rule(width, list.value as usize, number.value as usize, r.rule);
     show::verdict(w, answer_at(s, r.at, to), v)
 }
 
 // `rules`: two of them.
 fn pair(call: usize, width: u32, s: &[u8], from: usize, w: &[u8], to: usize) -> usize {
     let r = given::two_rules(s, from, names::RULES);
-    asked(call, width, r.first, r.second, w, answer_at(s, r.at, to))
-}
-
-fn asked(call: usize, width: u32, a: Rule, b: Rule, w: &[u8], to: usize) -> usize {
-    if call == names::COVERS {
-        return show::holds(w, to, pairs::covers(width, a, b));
+    let at = answer_at(s, r.at, to);
+    match call {
+        names::COVERS => show::holds(w, at, pairs::covers(width, r.first, r.second)),
+        names::CROSSES => show::holds(w, at, pairs::crosses(width, r.first, r.second)),
+        names::DISTANCE => show::measured(w, at, pairs::distance(width, r.first, r.second)),
+        names::RULE_COVERS => show::yes_or_no(w, at, pairs::rule_covers(r.first, r.second)),
+        _ => show::yes_or_no(w, at, pairs::rule_crosses(r.first, r.second)),
     }
-    if call == names::CROSSES {
-        return show::holds(w, to, pairs::crosses(width, a, b));
-    }
-    if call == names::DISTANCE {
-        return show::measured(w, to, pairs::distance(width, a, b));
-    }
-    if call == names::RULE_COVERS {
-        return show::yes_or_no(w, to, pairs::rule_covers(a, b));
-    }
-    show::yes_or_no(w, to, pairs::rule_crosses(a, b))
-}
-
-// `list`, then `place`, counted from 0.
-fn rule_at(s: &[u8], from: usize, w: &[u8], to: usize) -> usize {
-    let l = given::read_list(s, from, names::LIST);
-    let place = named(s, l.at, names::PLACE, 18446744073709551615);
-    let care = l.care;
-    let value = l.value;
-    let decision = l.decision;
-    let r = rules::rule_at(
-        slices::numbers(&care, l.cares),
-        slices::numbers(&value, l.values),
-        slices::shorts(&decision, l.decisions),
-        place.value as usize,
-    );
-    show::rule(w, answer_at(s, place.at, to), 0, r)
 }
 
 // `list`, `place` and `rule`: the list is shown as it is then.
-fn put_rule(s: &[u8], from: usize, w: &[u8], to: usize) -> usize {
+pub fn put_rule(s: &[u8], from: usize, w: &[u8], to: usize) -> usize {
     let l = given::read_list(s, from, names::LIST);
     let place = named(s, l.at, names::PLACE, 18446744073709551615);
     let r = given::one_rule(s, place.at, names::RULE);
@@ -197,8 +175,7 @@ fn put_rule(s: &[u8], from: usize, w: &[u8], to: usize) -> usize {
     );
     show::list(
         w,
-        answer_at(s, r.at, to),
-        show::LIST,
+        show::phrase(w, answer_at(s, r.at, to), show::LIST),
         0,
         List {
             care,

@@ -10,7 +10,6 @@ use crate::source::after;
 use crate::source::bad;
 use crate::source::is_bad;
 use crate::source::is_next;
-use words::Word;
 
 // The four slices, how many numbers each of them has, and the position after them.
 pub struct Runs {
@@ -25,61 +24,22 @@ pub struct Runs {
     pub at: usize,
 }
 
-// Number k of run i, where four numbers after each other are a run.
-fn number_of(numbers: &[u64], i: usize, k: usize) -> Word {
-    if i < 100000 {
-        if k < 4 {
-            return words::word_at(numbers, i * 4 + k);
-        }
-    }
-    words::wide(0)
-}
-
-// The numbers k of all runs.
-fn put_words(numbers: &[u64], k: usize, out: &mut [u64]) {
-    let mut left = out.len() / 2;
-    while left > 0 {
-        left -= 1;
-        words::put_word(out, left, number_of(numbers, left, k));
-    }
-}
-
-fn words_of(numbers: &[u64], k: usize) -> [u64; 8224] {
-    let mut out = [0u64; 8224];
-    put_words(numbers, k, &mut out);
-    out
-}
-
-fn shorts_of(numbers: &[u64], k: usize) -> [u16; 4112] {
-    let wide = words_of(numbers, k);
-    let mut out = [0u16; 4112];
-    slices::to_shorts(&wide, 4112, &mut out);
-    out
-}
-
 // Whether the answers of all runs are answers that a slice can hold.
 fn are_answers(numbers: &[u64], count: usize) -> bool {
     let mut i = 0;
-    while i < count {
-        if i % 4 > 1 && !words::below(words::word_at(numbers, i), 16) {
-            return false;
-        }
+    while i < count && (i % 4 < 2 || words::below(words::word_at(numbers, i), 16)) {
         i += 1;
     }
-    true
+    i == count
 }
 
 // The position after so many numbers, where they are whole runs; else a bad one at their start.
 fn whole_runs(numbers: &[u64], count: usize, start: usize, end: usize) -> usize {
-    if is_bad(end) {
-        return end;
+    if is_bad(end) || count % 4 == 0 && are_answers(numbers, count) {
+        end
+    } else {
+        bad(start)
     }
-    if count % 4 == 0 {
-        if are_answers(numbers, count) {
-            return end;
-        }
-    }
-    bad(start)
 }
 
 // The four slices one by one: `first`, `last`, `old` and `new`.
@@ -112,10 +72,10 @@ fn by_numbers(s: &[u8], from: usize) -> Runs {
     let all: &[u64] = &numbers;
     let count = f.count / 4;
     let twice = std::num::wrapping_add_usize(count, count);
-    let first = words_of(all, 0);
-    let last = words_of(all, 1);
-    let old = shorts_of(all, 2);
-    let new = shorts_of(all, 3);
+    let first = slices::words_of(all, 0, count);
+    let last = slices::words_of(all, 1, count);
+    let old = slices::shorts_of(all, 2, 4, count);
+    let new = slices::shorts_of(all, 3, 4, count);
     Runs {
         first,
         last,
@@ -133,7 +93,8 @@ fn by_numbers(s: &[u8], from: usize) -> Runs {
 pub fn read_runs(s: &[u8], from: usize) -> Runs {
     let at = after(s, from, INTO);
     if is_next(s, at, FIRST) {
-        return by_slices(s, at);
+        by_slices(s, at)
+    } else {
+        by_numbers(s, at)
     }
-    by_numbers(s, at)
 }

@@ -2,7 +2,7 @@
 // nothing is put there, and a length past the end gives the empty slice.
 use crate::source::byte;
 
-pub fn first_of(s: &[u64], n: usize) -> &[u64] {
+pub fn first_of(s: &[u16], n: usize) -> &[u16] {
     if n <= s.len() { &s[..n] } else { &s[..0] }
 }
 
@@ -58,28 +58,39 @@ pub fn put_number(s: &mut [u64], i: usize, x: u64) {
     }
 }
 
-fn put_short(s: &mut [u16], i: usize, x: u16) {
-    if i < s.len() {
-        s[i] = x;
-    }
-}
-
 pub fn put_byte(s: &mut [u8], i: usize, x: u8) {
     if i < s.len() {
         s[i] = x;
     }
 }
 
-// The first `count` words as numbers of 16 bits, and the lowest byte of each.
-pub fn to_shorts(from: &[u64], count: usize, to: &mut [u16]) {
+// Every fourth word from number k on, where `step` is 4: the numbers k of runs or rules that have four words each.
+pub fn words_of(numbers: &[u64], k: usize, count: usize) -> [u64; 8224] {
+    let mut out = [0u64; 8224];
+    let mut at = k;
     let mut i = 0;
     while i < count {
-        let n = words::capped(words::word_at(from, i));
-        put_short(to, i, (n % 65536) as u16);
+        words::put_word(&mut out, i, words::word_at(numbers, at));
+        at = std::num::wrapping_add_usize(at, 4);
         i += 1;
     }
+    out
 }
 
+// The same as numbers of 16 bits.
+pub fn shorts_of(numbers: &[u64], k: usize, step: usize, count: usize) -> [u16; 4112] {
+    let mut out = [0u16; 4112];
+    let mut at = k;
+    let mut i = 0;
+    while i < count && i < 4112 {
+        out[i] = (words::capped(words::word_at(numbers, at)) % 65536) as u16;
+        at = std::num::wrapping_add_usize(at, step);
+        i += 1;
+    }
+    out
+}
+
+// The lowest byte of each of the first `count` words.
 pub fn to_bytes(from: &[u64], count: usize, to: &mut [u8]) {
     let mut i = 0;
     while i < count {
@@ -89,21 +100,12 @@ pub fn to_bytes(from: &[u64], count: usize, to: &mut [u8]) {
     }
 }
 
-// The numbers as words, and how many numbers these have: two to a word.
-pub fn of_shorts(from: &[u16], to: &mut [u64]) -> usize {
+pub fn of_bytes(from: &[u8]) -> [u16; 65600] {
+    let mut out = [0u16; 65600];
     let mut i = 0;
-    while i < from.len() {
-        words::put_word(to, i, words::wide(short_at(from, i) as u64));
+    while i < from.len() && i < 65600 {
+        out[i] = byte(from, i) as u16;
         i += 1;
     }
-    std::num::wrapping_add_usize(i, i)
-}
-
-pub fn of_bytes(from: &[u8], to: &mut [u64]) -> usize {
-    let mut i = 0;
-    while i < from.len() {
-        words::put_word(to, i, words::wide(byte(from, i) as u64));
-        i += 1;
-    }
-    std::num::wrapping_add_usize(i, i)
+    out
 }

@@ -38,10 +38,7 @@ fn is_bracket(b: u8) -> bool {
 // Where the next word or bracket starts.
 pub fn word_start(s: &[u8], from: usize) -> usize {
     let mut at = from;
-    while at < s.len() {
-        if !is_space(s[at]) {
-            return at;
-        }
+    while at < s.len() && is_space(s[at]) {
         at += 1;
     }
     at
@@ -50,13 +47,7 @@ pub fn word_start(s: &[u8], from: usize) -> usize {
 // Where the word that starts here has ended.
 pub fn word_end(s: &[u8], from: usize) -> usize {
     let mut at = from;
-    while at < s.len() {
-        if is_space(s[at]) {
-            return at;
-        }
-        if is_bracket(s[at]) {
-            return at;
-        }
+    while at < s.len() && !is_space(s[at]) && !is_bracket(s[at]) {
         at += 1;
     }
     at
@@ -65,13 +56,10 @@ pub fn word_end(s: &[u8], from: usize) -> usize {
 // Where this byte stands in a part of the text, or the part's end.
 pub fn byte_from(s: &[u8], from: usize, end: usize, b: u8) -> usize {
     let mut at = from;
-    while at < end {
-        if byte(s, at) == b {
-            return at;
-        }
+    while at < end && byte(s, at) != b {
         at += 1;
     }
-    end
+    at
 }
 
 // A part of the text; empty where there is no such part.
@@ -84,17 +72,15 @@ pub fn part(s: &[u8], from: usize, end: usize) -> &[u8] {
     &s[..0]
 }
 
-// The word with this number in a text.
-pub fn word_of(s: &[u8], k: usize) -> &[u8] {
+// The phrase with this number in a text, where a | stands between two.
+pub fn phrase_of(s: &[u8], k: usize) -> &[u8] {
     let mut from = 0;
-    let mut end = 0;
-    let mut left = next(k);
+    let mut left = k;
     while left > 0 {
-        from = word_start(s, end);
-        end = word_end(s, from);
+        from = next(byte_from(s, from, s.len(), 124));
         left -= 1;
     }
-    part(s, from, end)
+    part(s, from, byte_from(s, from, s.len(), 124))
 }
 
 // Whether the next word is the one with this number.
@@ -108,18 +94,16 @@ pub fn after(s: &[u8], from: usize, name: usize) -> usize {
     let at = word_start(s, from);
     let end = word_end(s, at);
     if number_of(part(s, at, end)) == name {
-        return end;
+        end
+    } else {
+        bad(from)
     }
-    bad(from)
 }
 
 // The position after a bracket.
 pub fn bracket(s: &[u8], from: usize, b: u8) -> usize {
     let at = word_start(s, from);
-    if byte(s, at) == b {
-        return next(at);
-    }
-    bad(at)
+    if byte(s, at) == b { next(at) } else { bad(at) }
 }
 
 pub fn is_closed(s: &[u8], from: usize) -> bool {
@@ -130,13 +114,7 @@ pub fn is_closed(s: &[u8], from: usize) -> bool {
 // nothing is said (`show::say`), so that it is what the case answers.
 pub fn answer_at(s: &[u8], from: usize, to: usize) -> usize {
     let at = word_start(s, from);
-    if at < s.len() {
-        return bad(at);
-    }
-    if is_bad(from) {
-        return from;
-    }
-    to
+    if at == s.len() { to } else { bad(at) }
 }
 
 // A number, and the position after it.
@@ -201,4 +179,13 @@ pub fn header(s: &[u8], from: usize, name: usize) -> Given {
 // An argument that is a number: its name, then the number.
 pub fn named(s: &[u8], from: usize, name: usize, most: u64) -> Taken {
     number(s, after(s, from, name), most)
+}
+
+// An argument that a call may have not: it is 0 then.
+pub fn named_if(has: bool, s: &[u8], from: usize, name: usize, most: u64) -> Taken {
+    if has {
+        named(s, from, name, most)
+    } else {
+        Taken { value: 0, at: from }
+    }
 }

@@ -52,18 +52,10 @@ fn show_wire(w: &[u8], to: usize, h: ToWire) -> usize {
     }
 }
 
-// A swapped header is shown as the wire header that the swap which moves nothing gives back for it.
-fn show_swapped(w: &[u8], to: usize, h: ToSwapped) -> usize {
-    match h {
-        ToSwapped::Header(x) => show_wire(w, to, still().undo(x)),
-        ToSwapped::Refused(x) => show::refusal(w, to, x),
-    }
-}
-
-// Any number is a swapped header by the swap which moves nothing.
-fn undone(w: &[u8], to: usize, swap: Swap, header: Word) -> usize {
-    match still().apply(Wire(header)) {
-        ToSwapped::Header(x) => show_wire(w, to, swap.undo(x)),
+// A header moved by one swap and moved back by another.
+fn moved(w: &[u8], to: usize, there: Swap, back: Swap, header: Word) -> usize {
+    match there.apply(Wire(header)) {
+        ToSwapped::Header(x) => show_wire(w, to, back.undo(x)),
         ToSwapped::Refused(x) => show::refusal(w, to, x),
     }
 }
@@ -75,25 +67,9 @@ fn show_rule(w: &[u8], to: usize, width: u32, m: MovedRule) -> usize {
     }
 }
 
-fn show_swap(w: &[u8], to: usize, a: SwapAnswer) -> usize {
+pub fn show_swap(w: &[u8], to: usize, a: SwapAnswer) -> usize {
     let v = a.verdict;
-    let verdict = show::verdict(w, to, v);
-    show::swap(w, show::glyph(w, verdict, 32), a.swap)
-}
-
-// The call `prefix_swap`; `at` is the position after its width and its list.
-pub fn prefix_swap(
-    s: &[u8],
-    at: usize,
-    width: u32,
-    care: &[u64],
-    value: &[u64],
-    decision: &[u16],
-    w: &[u8],
-    to: usize,
-) -> usize {
-    let a = prefixes::prefix_swap(width, care, value, decision);
-    show_swap(w, answer_at(s, at, to), a)
+    show::swap(w, show::verdict(w, to, v), a.swap)
 }
 
 // What the list answers to the swapped header with this number.
@@ -108,27 +84,28 @@ pub fn looked(width: u32, care: &[u64], value: &[u64], decision: &[u16], header:
 pub fn on_swap(call: usize, s: &[u8], from: usize, w: &[u8], to: usize) -> usize {
     let g = swap_in(s, from);
     let swap = g.swap;
-    if call == names::INVERT {
-        return show_swap(w, answer_at(s, g.at, to), swap.invert());
+    match call {
+        names::INVERT => show_swap(w, answer_at(s, g.at, to), swap.invert()),
+        names::COMPOSE => compose(swap, s, g.at, w, to),
+        names::APPLY_RULE => apply_rule(swap, s, g.at, w, to),
+        _ => on_header(call, swap, s, g.at, w, to),
     }
-    if call == names::COMPOSE {
-        let second = swap_in(s, g.at);
-        return show_swap(w, answer_at(s, second.at, to), swap.compose(second.swap));
-    }
-    if call == names::APPLY_RULE {
-        return apply_rule(swap, s, g.at, w, to);
-    }
-    moved(call, swap, s, g.at, w, to)
 }
 
-fn moved(call: usize, swap: Swap, s: &[u8], from: usize, w: &[u8], to: usize) -> usize {
+fn compose(swap: Swap, s: &[u8], from: usize, w: &[u8], to: usize) -> usize {
+    let second = swap_in(s, from);
+    show_swap(w, answer_at(s, second.at, to), swap.compose(second.swap))
+}
+
+// A swapped header is shown as the wire header that the swap which moves nothing gives back for it, and any number is made a swapped
+// header by that swap.
+fn on_header(call: usize, swap: Swap, s: &[u8], from: usize, w: &[u8], to: usize) -> usize {
     let h = header(s, from, names::HEADER);
-    let word = h.word;
     let at = answer_at(s, h.at, to);
-    if call == names::APPLY {
-        return show_swapped(w, at, swap.apply(Wire(word)));
+    match call {
+        names::APPLY => moved(w, at, swap, still(), h.word),
+        _ => moved(w, at, still(), swap, h.word),
     }
-    undone(w, at, swap, word)
 }
 
 fn apply_rule(swap: Swap, s: &[u8], from: usize, w: &[u8], to: usize) -> usize {

@@ -18,14 +18,9 @@ fn show_counted(w: &[u8], to: usize, c: Counted) -> usize {
 pub fn show_woven(w: &[u8], to: usize, woven: Woven) -> usize {
     match woven {
         Woven::Done(t) => {
-            let kept = show::glyph(w, show::named(w, to, show::KEPT, t.kept as u64), 32);
+            let kept = show::named(w, to, show::KEPT, t.kept as u64);
             let dropped = show::named(w, kept, show::DROPPED, t.dropped as u64);
-            show::named(
-                w,
-                show::glyph(w, dropped, 32),
-                show::MERGED,
-                t.merged as u64,
-            )
+            show::named(w, dropped, show::MERGED, t.merged as u64)
         }
         Woven::Refused(x) => show::refusal(w, to, x),
     }
@@ -52,12 +47,7 @@ pub fn cut(
         slices::shorts_mut(&mut sizes, f.count),
     );
     let answer = show_counted(w, answer_at(s, f.at, to), c);
-    show::shorts(
-        w,
-        show::glyph(w, answer, 32),
-        show::INTO,
-        slices::shorts(&sizes, f.count),
-    )
+    show::shorts(w, answer, show::INTO, slices::shorts(&sizes, f.count))
 }
 
 // `into`: the list that takes the woven rules.
@@ -87,8 +77,7 @@ pub fn weave(
     let answer = show_woven(w, answer_at(s, l.at, to), woven);
     show::list(
         w,
-        show::glyph(w, answer, 32),
-        show::INTO,
+        show::phrase(w, answer, show::INTO),
         width,
         List {
             care: to_care,

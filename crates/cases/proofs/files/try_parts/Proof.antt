@@ -1,12 +1,12 @@
+use native.Mathlib.Omega.{arith}
 use borrow.Author.Needs.{needs}
 use Rattle.cases.proofs.files.try_parts.Statement.{statement}
 use Rattle.cases.proofs.files.try_parts.Tie as tie
 use Rattle.cases.proofs.files.try_parts.Reads as reads
 use Rattle.cases.proofs.files.try_parts.Lts as lts
-use Rattle.cases.proofs.files.at_front.Reads as at-front-reads
-use Rattle.cases.proofs.files.keep.Reads as keep-reads
 use Rattle.cases.proofs.files.read_on.Reads as read-on-reads
 use Rattle.cases.proofs.files.try_part.Reads as try-part-reads
+use Rattle.cases.proofs.files.whole.Reads as whole-reads
 use Rattle.cases.proofs.slices.bytes.Reads as bytes-reads
 
 abbrev Inv-loop : tie.InvT-loop
@@ -18,35 +18,35 @@ abbrev μ-loop : tie.MeasureT-loop
 slice-aggregate-all : tie.Need-slice-aggregate-all Inv-loop μ-loop
 slice-aggregate-all c = search needs
 
+read-on-requires : tie.Need-read-on-requires Inv-loop μ-loop
+read-on-requires c κs = search needs
+
 loop-holds : tie.Need-loop-holds Inv-loop μ-loop
 loop-holds c = search needs
 
 sub-left : tie.Need-sub-left Inv-loop μ-loop
 sub-left c = search needs
 
-read-on-requires : tie.Need-read-on-requires Inv-loop μ-loop
-read-on-requires c κs = search needs
-
-returns : tie.Need-returns Inv-loop μ-loop
-returns c = search needs
-
 bytes-requires : tie.Need-bytes-requires Inv-loop μ-loop
 bytes-requires c κs = search needs
+
+whole-requires : tie.Need-whole-requires Inv-loop μ-loop
+whole-requires c κs = search needs
 
 try-part-requires : tie.Need-try-part-requires Inv-loop μ-loop
 try-part-requires c κs = search needs
 
-keep-requires : tie.Need-keep-requires Inv-loop μ-loop
-keep-requires c κs = search needs
-
-at-front-requires : tie.Need-at-front-requires Inv-loop μ-loop
-at-front-requires c κs = search needs
+read-on-requires-2 : tie.Need-read-on-requires-2 Inv-loop μ-loop
+read-on-requires-2 c κs = search needs
 
 loop-less : tie.Need-loop-less Inv-loop μ-loop
-loop-less c = search needs
+loop-less c = omega arith
 
 loop-again : tie.Need-loop-again Inv-loop μ-loop
 loop-again c = search needs
+
+returns : tie.Need-returns Inv-loop μ-loop
+returns c = search needs
 
 returns-2 : tie.Need-returns-2 Inv-loop μ-loop
 returns-2 c = search needs
@@ -58,14 +58,14 @@ try-parts-spec =
     Inv-loop
     μ-loop
     slice-aggregate-all
+    read-on-requires
     loop-holds
     sub-left
-    read-on-requires
-    returns
     bytes-requires
+    whole-requires
     try-part-requires
-    keep-requires
-    at-front-requires
+    read-on-requires-2
     loop-less
     loop-again
+    returns
     returns-2)

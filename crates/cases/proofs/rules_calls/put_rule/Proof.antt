@@ -1,4 +1,5 @@
 use borrow.Author.Needs.{needs}
+use borrow.Author.Needs.{needs}
 use Rattle.cases.proofs.rules_calls.put_rule.Statement.{statement}
 use Rattle.cases.proofs.rules_calls.put_rule.Tie as tie
 use Rattle.cases.proofs.rules_calls.put_rule.Reads as reads
@@ -6,6 +7,7 @@ use Rattle.cases.proofs.rules_calls.put_rule.Lts as lts
 use Rattle.cases.proofs.given.one_rule.Reads as one-rule-reads
 use Rattle.cases.proofs.given.read_list.Reads as read-list-reads
 use Rattle.cases.proofs.show.list.Reads as list-reads
+use Rattle.cases.proofs.show.phrase.Reads as phrase-reads
 use Rattle.cases.proofs.slices.numbers_mut.Reads as numbers-mut-reads
 use Rattle.cases.proofs.slices.shorts_mut.Reads as shorts-mut-reads
 use Rattle.cases.proofs.source.answer_at.Reads as answer-at-reads
@@ -45,6 +47,9 @@ put-rule-requires c κs = search needs
 answer-at-requires : tie.Need-answer-at-requires
 answer-at-requires c κs = search needs
 
+phrase-requires : tie.Need-phrase-requires
+phrase-requires c κs = search needs
+
 list-requires : tie.Need-list-requires
 list-requires c κs = search needs
 
@@ -66,5 +71,6 @@ put-rule-spec =
     shorts-mut-requires
     put-rule-requires
     answer-at-requires
+    phrase-requires
     list-requires
     returns)

@@ -1,5 +1,5 @@
-use Prim.Native.Nat.{_-_}
 use borrow.Author.Needs.{needs}
+use Prim.Native.Nat.{_-_}
 use Rattle.cases.proofs.runs.are_answers.Statement.{statement}
 use Rattle.cases.proofs.runs.are_answers.Tie as tie
 use Rattle.cases.proofs.runs.are_answers.Reads as reads
@@ -22,9 +22,6 @@ word-at-requires c κs = search needs
 below-requires : tie.Need-below-requires Inv-loop μ-loop
 below-requires c κs = search needs
 
-returns : tie.Need-returns Inv-loop μ-loop
-returns c = search needs
-
 add-i : tie.Need-add-i Inv-loop μ-loop
 add-i c = search needs
 
@@ -34,8 +31,8 @@ loop-less c = search needs
 loop-again : tie.Need-loop-again Inv-loop μ-loop
 loop-again c = search needs
 
-returns-2 : tie.Need-returns-2 Inv-loop μ-loop
-returns-2 c = search needs
+returns : tie.Need-returns Inv-loop μ-loop
+returns c = search needs
 
 pub are-answers-spec : {M : Type 1} → statement M
 are-answers-spec =
@@ -46,8 +43,7 @@ are-answers-spec =
     loop-holds
     word-at-requires
     below-requires
-    returns
     add-i
     loop-less
     loop-again
-    returns-2)
+    returns)

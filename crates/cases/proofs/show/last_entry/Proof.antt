@@ -1,6 +1,4 @@
 use borrow.Author.Needs.{needs}
-use lib.ListN.{length}
-use Prim.Native.Nat.{_≤_}
 use Rattle.cases.proofs.show.last_entry.Statement.{statement}
 use Rattle.cases.proofs.show.last_entry.Tie as tie
 use Rattle.cases.proofs.show.last_entry.Reads as reads
@@ -8,7 +6,7 @@ use Rattle.cases.proofs.show.last_entry.Lts as lts
 use Rattle.cases.proofs.source.byte.Reads as byte-reads
 
 abbrev Inv-loop : tie.InvT-loop
-Inv-loop places left₀ left = left ≤ length places
+Inv-loop places left₀ left = Unit {0}
 
 abbrev μ-loop : tie.MeasureT-loop
 μ-loop places left₀ left = left
@@ -22,9 +20,6 @@ sub-byte c = search needs
 byte-requires : tie.Need-byte-requires Inv-loop μ-loop
 byte-requires c κs = search needs
 
-returns : tie.Need-returns Inv-loop μ-loop
-returns c = search needs
-
 sub-left : tie.Need-sub-left Inv-loop μ-loop
 sub-left c = search needs
 
@@ -33,6 +28,9 @@ loop-less c = search needs
 
 loop-again : tie.Need-loop-again Inv-loop μ-loop
 loop-again c = search needs
+
+returns : tie.Need-returns Inv-loop μ-loop
+returns c = search needs
 
 returns-2 : tie.Need-returns-2 Inv-loop μ-loop
 returns-2 c = search needs
@@ -46,8 +44,8 @@ last-entry-spec =
     loop-holds
     sub-byte
     byte-requires
-    returns
     sub-left
     loop-less
     loop-again
+    returns
     returns-2)

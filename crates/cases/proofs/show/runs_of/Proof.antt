@@ -1,12 +1,12 @@
-use Prim.Native.Nat.{_-_}
 use lib.ListN.{length}
 use borrow.Author.Needs.{needs}
+use Prim.Native.Nat.{_-_}
 use Rattle.cases.proofs.show.runs_of.Statement.{statement}
 use Rattle.cases.proofs.show.runs_of.Tie as tie
 use Rattle.cases.proofs.show.runs_of.Reads as reads
 use Rattle.cases.proofs.show.runs_of.Lts as lts
 use Rattle.cases.proofs.show.between.Reads as between-reads
-use Rattle.cases.proofs.show.glyph.Reads as glyph-reads
+use Rattle.cases.proofs.show.phrase.Reads as phrase-reads
 use Rattle.cases.proofs.show.run.Reads as run-reads
 use Rattle.cases.proofs.slices.short_at.Reads as short-at-reads
 use Rattle.words.proofs.word_at.Reads as word-at-reads
@@ -17,8 +17,8 @@ Inv-loop w from first last old new at₀ i₀ at i = Unit {0}
 abbrev μ-loop : tie.MeasureT-loop
 μ-loop w from first last old new at₀ i₀ at i = length old - i
 
-glyph-requires : tie.Need-glyph-requires Inv-loop μ-loop
-glyph-requires c κs = search needs
+phrase-requires : tie.Need-phrase-requires Inv-loop μ-loop
+phrase-requires c κs = search needs
 
 loop-holds : tie.Need-loop-holds Inv-loop μ-loop
 loop-holds c = search needs
@@ -35,14 +35,8 @@ word-at-requires-2 c κs = search needs
 short-at-requires : tie.Need-short-at-requires Inv-loop μ-loop
 short-at-requires c κs = search needs
 
-cast-run : tie.Need-cast-run Inv-loop μ-loop
-cast-run c = search needs
-
 short-at-requires-2 : tie.Need-short-at-requires-2 Inv-loop μ-loop
 short-at-requires-2 c κs = search needs
-
-cast-run-2 : tie.Need-cast-run-2 Inv-loop μ-loop
-cast-run-2 c = search needs
 
 run-requires : tie.Need-run-requires Inv-loop μ-loop
 run-requires c κs = search needs
@@ -56,8 +50,8 @@ loop-less c = search needs
 loop-again : tie.Need-loop-again Inv-loop μ-loop
 loop-again c = search needs
 
-glyph-requires-2 : tie.Need-glyph-requires-2 Inv-loop μ-loop
-glyph-requires-2 c κs = search needs
+phrase-requires-2 : tie.Need-phrase-requires-2 Inv-loop μ-loop
+phrase-requires-2 c κs = search needs
 
 returns : tie.Need-returns Inv-loop μ-loop
 returns c = search needs
@@ -68,18 +62,16 @@ runs-of-spec =
     (tie.spec
     Inv-loop
     μ-loop
-    glyph-requires
+    phrase-requires
     loop-holds
     between-requires
     word-at-requires
     word-at-requires-2
     short-at-requires
-    cast-run
     short-at-requires-2
-    cast-run-2
     run-requires
     add-i
     loop-less
     loop-again
-    glyph-requires-2
+    phrase-requires-2
     returns)

@@ -1,20 +1,17 @@
-use Prim.Native.Nat.{_-_}
 use lib.ListN.{length}
-use mathlib.Core.Path.{_≡_, _∙_}
 use borrow.Author.Needs.{needs}
+use Prim.Native.Nat.{_-_}
 use Rattle.cases.proofs.slices.of_bytes.Statement.{statement}
 use Rattle.cases.proofs.slices.of_bytes.Tie as tie
 use Rattle.cases.proofs.slices.of_bytes.Reads as reads
 use Rattle.cases.proofs.slices.of_bytes.Lts as lts
 use Rattle.cases.proofs.source.byte.Reads as byte-reads
-use Rattle.words.proofs.wide.Reads as wide-reads
-use Rattle.words.proofs.put_word.Reads as put-word-reads
 
 abbrev Inv-loop : tie.InvT-loop
-Inv-loop from to₀ i₀ to i = length to ≡ length to₀
+Inv-loop from out₀ i₀ out i = Unit {0}
 
 abbrev μ-loop : tie.MeasureT-loop
-μ-loop from to₀ i₀ to i = length from - i
+μ-loop from out₀ i₀ out i = length from - i
 
 loop-holds : tie.Need-loop-holds Inv-loop μ-loop
 loop-holds c = search needs
@@ -22,14 +19,14 @@ loop-holds c = search needs
 byte-requires : tie.Need-byte-requires Inv-loop μ-loop
 byte-requires c κs = search needs
 
-cast-wide : tie.Need-cast-wide Inv-loop μ-loop
-cast-wide c = search needs
+cast-out : tie.Need-cast-out Inv-loop μ-loop
+cast-out c = search needs
 
-wide-requires : tie.Need-wide-requires Inv-loop μ-loop
-wide-requires c κs = search needs
+mul-out : tie.Need-mul-out Inv-loop μ-loop
+mul-out c = search needs
 
-put-word-requires : tie.Need-put-word-requires Inv-loop μ-loop
-put-word-requires c κs = search needs
+array-write-out : tie.Need-array-write-out Inv-loop μ-loop
+array-write-out c = search needs
 
 add-i : tie.Need-add-i Inv-loop μ-loop
 add-i c = search needs
@@ -40,14 +37,11 @@ loop-less c = search needs
 loop-again : tie.Need-loop-again Inv-loop μ-loop
 loop-again c = search needs
 
-wrapping-add-usize-requires : tie.Need-wrapping-add-usize-requires Inv-loop μ-loop
-wrapping-add-usize-requires c κs = search needs
-
-same-length : tie.Need-same-length Inv-loop μ-loop
-same-length c = search needs
-
 returns : tie.Need-returns Inv-loop μ-loop
 returns c = search needs
+
+returns-2 : tie.Need-returns-2 Inv-loop μ-loop
+returns-2 c = search needs
 
 pub of-bytes-spec : {M : Type 1} → statement M
 of-bytes-spec =
@@ -57,12 +51,11 @@ of-bytes-spec =
     μ-loop
     loop-holds
     byte-requires
-    cast-wide
-    wide-requires
-    put-word-requires
+    cast-out
+    mul-out
+    array-write-out
     add-i
     loop-less
     loop-again
-    wrapping-add-usize-requires
-    same-length
-    returns)
+    returns
+    returns-2)

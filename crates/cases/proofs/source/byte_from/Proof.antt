@@ -18,9 +18,6 @@ loop-holds c = search needs
 byte-requires : tie.Need-byte-requires Inv-loop μ-loop
 byte-requires c κs = search needs
 
-returns : tie.Need-returns Inv-loop μ-loop
-returns c = search needs
-
 add-at : tie.Need-add-at Inv-loop μ-loop
 add-at c = search needs
 
@@ -29,6 +26,9 @@ loop-less c = search needs
 
 loop-again : tie.Need-loop-again Inv-loop μ-loop
 loop-again c = search needs
+
+returns : tie.Need-returns Inv-loop μ-loop
+returns c = search needs
 
 returns-2 : tie.Need-returns-2 Inv-loop μ-loop
 returns-2 c = search needs
@@ -41,8 +41,8 @@ byte-from-spec =
     μ-loop
     loop-holds
     byte-requires
-    returns
     add-at
     loop-less
     loop-again
+    returns
     returns-2)

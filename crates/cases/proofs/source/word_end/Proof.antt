@@ -1,5 +1,5 @@
-use borrow.Author.Needs.{needs}
 use lib.ListN.{length}
+use borrow.Author.Needs.{needs}
 use Prim.Native.Nat.{_-_}
 use Rattle.cases.proofs.source.word_end.Statement.{statement}
 use Rattle.cases.proofs.source.word_end.Tie as tie
@@ -23,17 +23,11 @@ shared-slice-read-is-space c = search needs
 is-space-requires : tie.Need-is-space-requires Inv-loop μ-loop
 is-space-requires c κs = search needs
 
-returns : tie.Need-returns Inv-loop μ-loop
-returns c = search needs
-
 shared-slice-read-is-bracket : tie.Need-shared-slice-read-is-bracket Inv-loop μ-loop
 shared-slice-read-is-bracket c = search needs
 
 is-bracket-requires : tie.Need-is-bracket-requires Inv-loop μ-loop
 is-bracket-requires c κs = search needs
-
-returns-2 : tie.Need-returns-2 Inv-loop μ-loop
-returns-2 c = search needs
 
 add-at : tie.Need-add-at Inv-loop μ-loop
 add-at c = search needs
@@ -43,6 +37,12 @@ loop-less c = search needs
 
 loop-again : tie.Need-loop-again Inv-loop μ-loop
 loop-again c = search needs
+
+returns : tie.Need-returns Inv-loop μ-loop
+returns c = search needs
+
+returns-2 : tie.Need-returns-2 Inv-loop μ-loop
+returns-2 c = search needs
 
 returns-3 : tie.Need-returns-3 Inv-loop μ-loop
 returns-3 c = search needs
@@ -56,11 +56,11 @@ word-end-spec =
     loop-holds
     shared-slice-read-is-space
     is-space-requires
-    returns
     shared-slice-read-is-bracket
     is-bracket-requires
-    returns-2
     add-at
     loop-less
     loop-again
+    returns
+    returns-2
     returns-3)

@@ -1,5 +1,5 @@
-use borrow.Author.Needs.{needs}
 use lib.ListN.{length}
+use borrow.Author.Needs.{needs}
 use Prim.Native.Nat.{_-_}
 use Rattle.cases.proofs.source.word_start.Statement.{statement}
 use Rattle.cases.proofs.source.word_start.Tie as tie
@@ -22,9 +22,6 @@ shared-slice-read-is-space c = search needs
 is-space-requires : tie.Need-is-space-requires Inv-loop μ-loop
 is-space-requires c κs = search needs
 
-returns : tie.Need-returns Inv-loop μ-loop
-returns c = search needs
-
 add-at : tie.Need-add-at Inv-loop μ-loop
 add-at c = search needs
 
@@ -33,6 +30,9 @@ loop-less c = search needs
 
 loop-again : tie.Need-loop-again Inv-loop μ-loop
 loop-again c = search needs
+
+returns : tie.Need-returns Inv-loop μ-loop
+returns c = search needs
 
 returns-2 : tie.Need-returns-2 Inv-loop μ-loop
 returns-2 c = search needs
@@ -46,8 +46,8 @@ word-start-spec =
     loop-holds
     shared-slice-read-is-space
     is-space-requires
-    returns
     add-at
     loop-less
     loop-again
+    returns
     returns-2)
