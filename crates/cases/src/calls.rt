@@ -26,7 +26,7 @@ pub fn answered(s: &[u8], w: &[u8], to: usize) -> usize {
     match call {
         names::CHECK_LIST..=names::RULE_AT => on_list(call, s, end, w, to),
         names::PUT_RULE => rules_calls::put_rule(s, end, w, to),
-        names::CHECK_RULE..=names::DISTANCE => rules_calls::on_rules(call, s, end, w, to),
+        names::CHECK_RULE..=names::RULE_CROSSES => rules_calls::on_rules(call, s, end, w, to),
         names::APPLY_RULE..=names::COMPOSE => swaps_calls::on_swap(call, s, end, w, to),
         names::CHECK..=names::WEAVE_IMAGE => image_calls::on_image(call, s, end, w, to),
         names::COMPARE_LISTS | names::COMPARE_FIRST => {
@@ -59,18 +59,14 @@ fn head_of(call: usize, s: &[u8], from: usize) -> Head {
     }
 }
 
-// The name of the first list that a call has.
-fn list_of(call: usize) -> usize {
-    match call {
-        names::COMPARE => names::OLD,
-        _ => names::LIST,
-    }
-}
-
 // The calls that have a list.
 fn on_list(call: usize, s: &[u8], from: usize, w: &[u8], to: usize) -> usize {
     let h = head_of(call, s, from);
-    let l = given::read_list(s, h.at, list_of(call));
+    let name = match call {
+        names::COMPARE => names::OLD,
+        _ => names::LIST,
+    };
+    let l = given::read_list(s, h.at, name);
     let care = l.care;
     let value = l.value;
     let decision = l.decision;

@@ -26,7 +26,7 @@ pub fn on_list(
     let care = l.care;
     let value = l.value;
     let decision = l.decision;
-    on_lists(
+    compare_lists(
         s,
         l.at,
         width,
@@ -42,7 +42,7 @@ pub fn on_list(
 }
 
 // `start` and `into`.
-fn on_lists(
+fn compare_lists(
     s: &[u8],
     from: usize,
     width: u32,
@@ -56,35 +56,8 @@ fn on_lists(
     to: usize,
 ) -> usize {
     let start = header(s, from, names::START);
+    let word = start.word;
     let r = runs::read_runs(s, start.at);
-    compare_lists(
-        width,
-        old_care,
-        old_value,
-        old_decision,
-        new_care,
-        new_value,
-        new_decision,
-        start.word,
-        r,
-        w,
-        answer_at(s, r.at, to),
-    )
-}
-
-fn compare_lists(
-    width: u32,
-    old_care: &[u64],
-    old_value: &[u64],
-    old_decision: &[u16],
-    new_care: &[u64],
-    new_value: &[u64],
-    new_decision: &[u16],
-    start: Word,
-    r: Runs,
-    w: &[u8],
-    to: usize,
-) -> usize {
     let mut first = r.first;
     let mut last = r.last;
     let mut old = r.old;
@@ -97,7 +70,7 @@ fn compare_lists(
         new_care,
         new_value,
         new_decision,
-        Wire(start),
+        Wire(word),
         slices::numbers_mut(&mut first, r.firsts),
         slices::numbers_mut(&mut last, r.lasts),
         slices::shorts_mut(&mut old, r.olds),
@@ -105,7 +78,7 @@ fn compare_lists(
     );
     show::runs(
         w,
-        show::compared(w, to, c),
+        show::compared(w, answer_at(s, r.at, to), c),
         slices::numbers(&first, r.firsts),
         slices::numbers(&last, r.lasts),
         slices::shorts(&old, r.olds),

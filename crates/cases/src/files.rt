@@ -106,11 +106,6 @@ fn say_answer(path: &[u8], line: u64, s: &[u8], wanted: &[u8]) {
     say(LINE_END);
 }
 
-fn say_wanted(path: &[u8], line: u64, wanted: &[u8]) {
-    say_number(path, LINE, line, EXPECTED);
-    say_line(wanted);
-}
-
 // What came of a case: it could not be read, there is no answer beside it, or it answers as that says, or otherwise.
 enum Outcome {
     Unread,
@@ -147,7 +142,8 @@ fn try_case(path: &[u8], line: u64, s: &[u8], wanted: &[u8], held: bool) -> u64 
         Outcome::Same => 0,
         Outcome::Other => {
             say_answer(path, line, s, wanted);
-            say_wanted(path, line, wanted);
+            say_number(path, LINE, line, EXPECTED);
+            say_line(wanted);
             1
         }
     }
@@ -170,16 +166,11 @@ fn counted(t: Tried, end: usize, lines: u64, cases: u64, failed: u64) -> Tried {
     }
 }
 
-// Where the answer beside a case ends that ends here, or the case itself, where it has none.
-fn answer_end(s: &[u8], end: usize, held: bool) -> usize {
-    if held { line_end(s, next(end)) } else { end }
-}
-
 // Tries the case that starts here and ends in this line or a later one.
 fn try_here(path: &[u8], s: &[u8], t: Tried, first_end: usize) -> Tried {
     let end = case_end(s, first_end);
     let held = byte(s, next(end)) == 61;
-    let last = answer_end(s, end, held);
+    let last = if held { line_end(s, next(end)) } else { end };
     let wanted = part(s, next(next(next(end))), last);
     let failed = try_case(path, t.line, part(s, t.at, end), wanted, held);
     counted(t, next(last), lines_in(s, t.at, next(last)), 1, failed)
@@ -194,8 +185,9 @@ fn try_next(path: &[u8], s: &[u8], t: Tried) -> Tried {
     }
 }
 
-// Tries the cases that start before a position.
-fn try_part(path: &[u8], s: &[u8], from: Tried, end: usize) -> Tried {
+// Tries the cases that stand in a part of a file: all of them where it is the last part, else those before its last 131,072 bytes.
+fn try_part(path: &[u8], s: &[u8], from: Tried) -> Tried {
+    let end = if s.len() < 262144 { s.len() } else { 131073 };
     let mut t = from;
     let mut left = s.len();
     while left > 0 && t.at < end {
@@ -228,11 +220,6 @@ fn read_on(file: i32, s: &mut [u8], from: usize, held: usize) -> usize {
     }
 }
 
-// Before which position of a part of a file cases are tried: all where it is the last part, else those that have 131,072 bytes.
-fn whole(held: usize) -> usize {
-    if held < 262144 { held } else { 131073 }
-}
-
 // Tries the cases of an open file, part by part.
 fn try_parts(path: &[u8], file: i32) -> Tried {
     let mut space = [0u8; 262144];
@@ -247,7 +234,7 @@ fn try_parts(path: &[u8], file: i32) -> Tried {
     let mut left: usize = 1000000;
     while left > 0 && held > 0 {
         left -= 1;
-        t = try_part(path, slices::bytes(all, held), t, whole(held));
+        t = try_part(path, slices::bytes(all, held), t);
         held = read_on(file, all, t.at, held);
         t.at = 0;
     }

@@ -96,16 +96,11 @@ fn no_item(start: usize) -> Item {
 fn in_bytes(s: &[u8], from: usize, colon: usize, end: usize, bits: u32) -> Item {
     let x = word_in(s, from, colon, 128);
     let n = number_in(s, next(colon), end, 16);
-    if bits == 8 && !is_bad(x.at) && words::below(x.word, bits_of(n.value)) {
+    if bits == 8 && !is_bad(x.at) && words::below(x.word, (n.value % 32 * 8) as u32) {
         item_of(x.word, n.value, Way::Bytes, n.at)
     } else {
         no_item(from)
     }
-}
-
-// How many bits so many bytes have.
-fn bits_of(bytes: u64) -> u32 {
-    if bytes <= 16 { bytes as u32 * 8 } else { 0 }
 }
 
 // `2 to 9`: each number from the first to the last, which less the first is how many more there are: the first is added to the last turned
@@ -121,31 +116,24 @@ fn counted_up(s: &[u8], first: Word, at: usize, bits: u32) -> Item {
     }
 }
 
-// One number, or the first of those that `to` counts up.
-fn once(s: &[u8], at: usize, end: usize, bits: u32) -> Item {
+// What stands here, where it is said once.
+fn once(s: &[u8], at: usize, bits: u32) -> Item {
+    let end = word_end(s, at);
+    let colon = byte_from(s, at, end, 58);
     let n = word_in(s, at, end, bits);
-    if is_next(s, end, TO) && !is_bad(n.at) {
+    if colon < end {
+        in_bytes(s, at, colon, end, bits)
+    } else if is_next(s, end, TO) && !is_bad(n.at) {
         counted_up(s, n.word, end, bits)
     } else {
         item_of(n.word, 1, Way::Same, n.at)
     }
 }
 
-// What stands here, where it is said once.
-fn said_once(s: &[u8], at: usize, bits: u32) -> Item {
-    let end = word_end(s, at);
-    let colon = byte_from(s, at, end, 58);
-    if colon < end {
-        in_bytes(s, at, colon, end, bits)
-    } else {
-        once(s, at, end, bits)
-    }
-}
-
 // The next numbers. `times` stands before one number alone.
 fn next_item(s: &[u8], from: usize, bits: u32) -> Item {
     let t = times(s, from);
-    let x = said_once(s, word_start(s, t.at), bits);
+    let x = once(s, word_start(s, t.at), bits);
     if t.value == 1 {
         x
     } else if x.times == 1 {
@@ -179,36 +167,24 @@ fn put_item(s: &[u8], f: Filled, bits: u32, out: &mut [u64]) -> Filled {
     }
 }
 
-// The same of rules, each of which is put as four words: its care, its value, its decision, and 0.
+// Reads the next rule, and how often it stands, into three columns of 4,112 words: care, value and decision.
 fn put_rule(s: &[u8], f: Filled, out: &mut [u64]) -> Filled {
     let t = times(s, f.at);
     let r = rule(s, t.at);
+    let rule = r.rule;
+    let second = std::num::wrapping_add_usize(f.count, 4112);
+    let third = std::num::wrapping_add_usize(f.count, 8224);
+    put_numbers(out, second, rule.value, t.value, Way::Same);
+    put_numbers(
+        out,
+        third,
+        words::wide(rule.decision as u64),
+        t.value,
+        Way::Same,
+    );
     Filled {
-        count: put_rules(out, f.count, r.rule, t.value),
-        at: room(f.count / 4, t.value, out.len() / 8, f.at, r.at),
-    }
-}
-
-fn put_rules(out: &mut [u64], from: usize, rule: Rule, times: u64) -> usize {
-    let mut i = from;
-    let mut left = times;
-    while left > 0 {
-        words::put_word(out, i, rule.care);
-        words::put_word(out, next(i), rule.value);
-        words::put_word(out, next(next(i)), words::wide(rule.decision as u64));
-        i = std::num::wrapping_add_usize(i, 4);
-        left -= 1;
-    }
-    i
-}
-
-// What stands for `bits` where rules are read.
-const RULES: u32 = 0;
-
-fn put_next(s: &[u8], f: Filled, bits: u32, out: &mut [u64]) -> Filled {
-    match bits {
-        RULES => put_rule(s, f, out),
-        _ => put_item(s, f, bits, out),
+        count: put_numbers(out, f.count, rule.care, t.value, Way::Same),
+        at: room(f.count, t.value, 4112, f.at, r.at),
     }
 }
 
@@ -216,6 +192,9 @@ fn put_next(s: &[u8], f: Filled, bits: u32, out: &mut [u64]) -> Filled {
 fn is_more(s: &[u8], at: usize) -> bool {
     !is_bad(at) && !is_closed(s, at) && !is_next(s, at, HALF)
 }
+
+// What stands for `bits` where rules are read.
+const RULES: u32 = 0;
 
 // The numbers after a bracket, each below 2^bits, or rules, put as words at the start of `out`, up to the other bracket or the word
 // `half`.
@@ -226,8 +205,11 @@ fn words_after(s: &[u8], from: usize, bits: u32, out: &mut [u64]) -> Filled {
     };
     let mut left = s.len();
     while left > 0 && is_more(s, f.at) {
-        f = put_next(s, f, bits, out);
         left -= 1;
+        f = match bits {
+            RULES => put_rule(s, f, out),
+            _ => put_item(s, f, bits, out),
+        };
     }
     f
 }
@@ -246,21 +228,17 @@ fn lent(s: &[u8], from: usize, out: &mut [u64]) -> Filled {
     let f = words_after(s, from, 128, out);
     let count = std::num::wrapping_add_usize(f.count, f.count);
     if is_next(s, f.at, HALF) {
-        with_half(s, f.at, count, out)
+        let half = number(s, after(s, f.at, HALF), 18446744073709551615);
+        slices::put_number(out, count, half.value);
+        Filled {
+            count: next(count),
+            at: room(count, 1, out.len(), f.at, bracket(s, half.at, 93)),
+        }
     } else {
         Filled {
             count,
             at: bracket(s, f.at, 93),
         }
-    }
-}
-
-fn with_half(s: &[u8], from: usize, count: usize, out: &mut [u64]) -> Filled {
-    let half = number(s, after(s, from, HALF), 18446744073709551615);
-    slices::put_number(out, count, half.value);
-    Filled {
-        count: next(count),
-        at: room(count, 1, out.len(), from, bracket(s, half.at, 93)),
     }
 }
 
@@ -377,13 +355,8 @@ fn pattern_end(from: usize, at: usize, end: usize) -> usize {
 // The two words themselves as `care/value`.
 fn two_words(s: &[u8], from: usize, slash: usize, end: usize) -> Ruled {
     let care = word_in(s, from, slash, 128);
-    let value = word_in(s, next(slash), end, 128);
-    rule_of(
-        care.word,
-        value.word,
-        0,
-        if is_bad(care.at) { care.at } else { value.at },
-    )
+    let value = word_in(s, next(care.at), end, 128);
+    rule_of(care.word, value.word, 0, value.at)
 }
 
 // A pattern or two words, and then the decision.
@@ -432,21 +405,20 @@ fn by_slices(s: &[u8], from: usize) -> List {
 }
 
 fn by_rules(s: &[u8], from: usize) -> List {
-    let mut numbers = [0u64; 32896];
+    let mut numbers = [0u64; 24672];
     let f = words_to(s, from, RULES, &mut numbers);
     let all: &[u64] = &numbers;
-    let count = f.count / 4;
-    let twice = std::num::wrapping_add_usize(count, count);
-    let care = slices::words_of(all, 0, count);
-    let value = slices::words_of(all, 1, count);
-    let decision = slices::shorts_of(all, 2, 4, count);
+    let twice = std::num::wrapping_add_usize(f.count, f.count);
+    let care = slices::words_of(all, 0, 1, f.count);
+    let value = slices::words_of(all, 4112, 1, f.count);
+    let decision = slices::shorts_of(all, 8224, 1, f.count);
     List {
         care,
         value,
         decision,
         cares: twice,
         values: twice,
-        decisions: count,
+        decisions: f.count,
         at: f.at,
     }
 }

@@ -35,8 +35,13 @@ pub fn on_image(call: usize, s: &[u8], from: usize, w: &[u8], to: usize) -> usiz
     with_image(call, slices::bytes(&bytes, b.count), s, b.at, w, to)
 }
 
+// Most have a number after it: which entry, counted from 1, or the `id` of a list.
 fn with_image(call: usize, image: &[u8], s: &[u8], from: usize, w: &[u8], to: usize) -> usize {
-    let n = number_of(call, s, from);
+    let n = match call {
+        names::ENTRY => named(s, from, names::NUMBER, 18446744073709551615),
+        names::BODY..=names::READ => named(s, from, names::ID, 65535),
+        _ => Taken { value: 0, at: from },
+    };
     let id = (n.value % 65536) as u16;
     let at = answer_at(s, n.at, to);
     match call {
@@ -50,15 +55,6 @@ fn with_image(call: usize, image: &[u8], s: &[u8], from: usize, w: &[u8], to: us
         names::TALLY => weaving_calls::show_woven(w, at, image_weaving::tally(image, id)),
         names::READ => read(image, id, s, n.at, w, to),
         _ => weave(image, s, n.at, w, to),
-    }
-}
-
-// The number after an image: which entry, counted from 1, or the `id` of a list.
-fn number_of(call: usize, s: &[u8], from: usize) -> Taken {
-    match call {
-        names::ENTRY => named(s, from, names::NUMBER, 18446744073709551615),
-        names::BODY..=names::READ => named(s, from, names::ID, 65535),
-        _ => Taken { value: 0, at: from },
     }
 }
 

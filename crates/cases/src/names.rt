@@ -30,15 +30,15 @@ pub const PUT_RULE: usize = 11;
 
 pub const CHECK_RULE: usize = 12;
 
-pub const RULE_COVERS: usize = 13;
+pub const COVERS: usize = 13;
 
-pub const RULE_CROSSES: usize = 14;
+pub const CROSSES: usize = 14;
 
-pub const COVERS: usize = 15;
+pub const DISTANCE: usize = 15;
 
-pub const CROSSES: usize = 16;
+pub const RULE_COVERS: usize = 16;
 
-pub const DISTANCE: usize = 17;
+pub const RULE_CROSSES: usize = 17;
 
 pub const APPLY_RULE: usize = 18;
 
@@ -149,6 +149,6 @@ fn place_of(word: &[u8], all: &[u8]) -> usize {
 pub fn number_of(word: &[u8]) -> usize {
     place_of(
         word,
-        b"check_list check_list_as lookup lookup_number lookup_swapped prefix_swap runs weave write compare rule_at put_rule check_rule rule_covers rule_crosses covers crosses distance apply_rule apply undo invert compose check width format count entry body body_refusal tally read weave_image compare_lists compare_first list old new into headers header as number rule rules place swap start image id ids counts care value decision first last times to none half",
+        b"check_list check_list_as lookup lookup_number lookup_swapped prefix_swap runs weave write compare rule_at put_rule check_rule covers crosses distance rule_covers rule_crosses apply_rule apply undo invert compose check width format count entry body body_refusal tally read weave_image compare_lists compare_first list old new into headers header as number rule rules place swap start image id ids counts care value decision first last times to none half",
     )
 }

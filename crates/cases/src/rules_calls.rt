@@ -26,7 +26,11 @@ pub fn on_list(
     w: &[u8],
     to: usize,
 ) -> usize {
-    let n = number_of(call, s, from);
+    let n = match call {
+        names::CHECK_LIST_AS => named(s, from, names::AS, 18446744073709551615),
+        names::RULE_AT => named(s, from, names::PLACE, 18446744073709551615),
+        _ => Taken { value: 0, at: from },
+    };
     let at = answer_at(s, n.at, to);
     let number = n.value as usize;
     match call {
@@ -39,14 +43,6 @@ pub fn on_list(
             rules::check_list_as(number, width, care, value, decision),
         ),
         _ => show::rule(w, at, 0, rules::rule_at(care, value, decision, number)),
-    }
-}
-
-fn number_of(call: usize, s: &[u8], from: usize) -> Taken {
-    match call {
-        names::CHECK_LIST_AS => named(s, from, names::AS, 18446744073709551615),
-        names::RULE_AT => named(s, from, names::PLACE, 18446744073709551615),
-        _ => Taken { value: 0, at: from },
     }
 }
 
@@ -123,13 +119,7 @@ fn look_up(
 
 // The calls that have rules and no list: all that are handed in stand in brackets after the name of the argument.
 pub fn on_rules(call: usize, s: &[u8], from: usize, w: &[u8], to: usize) -> usize {
-    let width = named_if(
-        call != names::RULE_COVERS && call != names::RULE_CROSSES,
-        s,
-        from,
-        names::WIDTH,
-        4294967295,
-    );
+    let width = named_if(call < names::RULE_COVERS, s, from, names::WIDTH, 4294967295);
     let places = (width.value % 4294967296) as u32;
     match call {
         names::CHECK_RULE => check_rule(places, s, width.at, w, to),

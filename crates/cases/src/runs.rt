@@ -72,8 +72,8 @@ fn by_numbers(s: &[u8], from: usize) -> Runs {
     let all: &[u64] = &numbers;
     let count = f.count / 4;
     let twice = std::num::wrapping_add_usize(count, count);
-    let first = slices::words_of(all, 0, count);
-    let last = slices::words_of(all, 1, count);
+    let first = slices::words_of(all, 0, 4, count);
+    let last = slices::words_of(all, 1, 4, count);
     let old = slices::shorts_of(all, 2, 4, count);
     let new = slices::shorts_of(all, 3, 4, count);
     Runs {

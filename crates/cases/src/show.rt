@@ -88,16 +88,13 @@ pub const OTHERWISE: usize = 3298534883328;
 
 // Nothing is said at a bad position, as `OTHERWISE` is one too: it is what is answered.
 fn say(w: &[u8], at: usize, said: &[u8]) -> usize {
+    let end = std::num::wrapping_add_usize(at, said.len());
     if at >= ALOUD {
         io::write_all(1, said);
     }
-    if is_bad(at) { at } else { held(w, at, said) }
-}
-
-// The position after a text that has to stand here.
-fn held(w: &[u8], at: usize, said: &[u8]) -> usize {
-    let end = std::num::wrapping_add_usize(at, said.len());
-    if check::same(part(w, at, end), said) {
+    if is_bad(at) {
+        at
+    } else if check::same(part(w, at, end), said) {
         end
     } else {
         OTHERWISE
@@ -203,13 +200,6 @@ const SHORTS: usize = 1;
 
 const RULES_OF_A_LIST: usize = 2;
 
-fn separator(kind: usize) -> usize {
-    match kind {
-        RULES_OF_A_LIST => COMMA,
-        _ => SPACE,
-    }
-}
-
 fn item_at(care: &[u64], value: &[u64], decision: &[u16], i: usize) -> Rule {
     Rule {
         care: words::word_at(care, i),
@@ -230,19 +220,9 @@ fn same_items(a: Rule, b: Rule) -> bool {
     words::same(a.care, b.care) && words::same(a.value, b.value) && a.decision == b.decision
 }
 
-// How many items there are.
-fn count_of(care: &[u64], decision: &[u16]) -> usize {
-    if decision.len() == 0 {
-        care.len() / 2
-    } else {
-        decision.len()
-    }
-}
-
 // How many items from place i on are shown as one: 16 or more that are the same, or one.
-fn alike(care: &[u64], value: &[u64], decision: &[u16], i: usize) -> usize {
+fn alike(care: &[u64], value: &[u64], decision: &[u16], i: usize, count: usize) -> usize {
     let r = item_at(care, value, decision, i);
-    let count = count_of(care, decision);
     let mut end = i;
     while end < count && same_items(r, item_at(care, value, decision, end)) {
         end += 1;
@@ -265,18 +245,23 @@ fn items(
     from: usize,
     kind: usize,
     width: u32,
+    count: usize,
     care: &[u64],
     value: &[u64],
     decision: &[u16],
 ) -> usize {
-    let count = count_of(care, decision);
+    let separator = if kind == RULES_OF_A_LIST {
+        COMMA
+    } else {
+        SPACE
+    };
     let mut at = phrase(w, from, OPEN);
     let mut i = 0;
     let mut shown = 0;
     while i < count {
         if i == shown {
-            let n = alike(care, value, decision, i);
-            at = between(w, at, i, separator(kind));
+            let n = alike(care, value, decision, i, count);
+            at = between(w, at, i, separator);
             at = times(w, at, n, kind, width, item_at(care, value, decision, i));
             shown = std::num::wrapping_add_usize(i, n);
         }
@@ -289,59 +274,38 @@ fn items(
 fn left_over(w: &[u8], at: usize, s: &[u64]) -> usize {
     match s.len() % 2 {
         0 => at,
-        _ => named(
-            w,
-            between(w, at, s.len() / 2, SPACE),
-            HALF,
-            slices::number_at(s, s.len() - 1),
-        ),
+        _ => named(w, between(w, at, s.len() / 2, SPACE), HALF, s[s.len() - 1]),
     }
 }
 
 // The words of a slice, after a phrase.
 fn slice(w: &[u8], at: usize, k: usize, s: &[u64]) -> usize {
     let none = [0u16; 0];
-    items(w, phrase(w, at, k), WORDS, 0, s, s, &none)
+    items(w, phrase(w, at, k), WORDS, 0, s.len() / 2, s, s, &none)
 }
 
-// The shorter numbers of one.
-pub fn shorts(w: &[u8], at: usize, k: usize, s: &[u16]) -> usize {
-    short_items(w, phrase(w, at, k), s)
-}
-
-fn short_items(w: &[u8], at: usize, s: &[u16]) -> usize {
+pub fn shorts(w: &[u8], at: usize, s: &[u16]) -> usize {
     let none = [0u64; 0];
-    items(w, at, SHORTS, 0, &none, &none, s)
+    items(w, at, SHORTS, 0, s.len(), &none, &none, s)
 }
 
 pub fn bytes(w: &[u8], at: usize, s: &[u8]) -> usize {
     let wide = slices::of_bytes(s);
-    short_items(w, at, slices::first_of(&wide, s.len()))
-}
-
-fn fits(width: u32, care: Word, value: Word) -> bool {
-    let v = rules::check_rule(
-        width,
-        1,
-        1,
-        Rule {
-            care,
-            value,
-            decision: 0,
-        },
-    );
-    match v {
-        Verdict::Fine => true,
-        Verdict::Refused(_) => false,
-    }
+    shorts(w, at, slices::first_of(&wide, s.len()))
 }
 
 // A rule that fits the width as its pattern, another by its two words, and its decision.
 pub fn rule(w: &[u8], at: usize, width: u32, r: Rule) -> usize {
-    let said = if fits(width, r.care, r.value) {
-        pattern(w, at, width, r)
-    } else {
-        wide_number(w, phrase(w, wide_number(w, at, r.care), SLASH), r.value)
+    let care = r.care;
+    let value = r.value;
+    let undecided = Rule {
+        care,
+        value,
+        decision: 0,
+    };
+    let said = match rules::check_rule(width, 1, 1, undecided) {
+        Verdict::Fine => pattern(w, at, width, r),
+        Verdict::Refused(_) => wide_number(w, phrase(w, wide_number(w, at, care), SLASH), value),
     };
     named(w, said, SPACE, r.decision as u64)
 }
@@ -376,7 +340,16 @@ fn lent_list(
     decision: &[u16],
 ) -> usize {
     if care.len() == value.len() && care.len() == decision.len() * 2 {
-        items(w, at, RULES_OF_A_LIST, width, care, value, decision)
+        items(
+            w,
+            at,
+            RULES_OF_A_LIST,
+            width,
+            decision.len(),
+            care,
+            value,
+            decision,
+        )
     } else {
         three(w, at, CARE, care, value, decision)
     }
@@ -385,7 +358,7 @@ fn lent_list(
 // Three slices one by one, the first after phrase k.
 fn three(w: &[u8], at: usize, k: usize, a: &[u64], b: &[u64], c: &[u16]) -> usize {
     let second = slice(w, slice(w, at, k, a), next(k), b);
-    shorts(w, second, next(next(k)), c)
+    shorts(w, phrase(w, second, next(next(k))), c)
 }
 
 // The width of a swap and its entries; entries of 0 after the last other one are left out.
@@ -436,6 +409,10 @@ pub fn runs(w: &[u8], at: usize, first: &[u64], last: &[u64], old: &[u16], new: 
     if first.len() == last.len() && first.len() == old.len() * 2 && old.len() == new.len() {
         runs_of(w, into, first, last, old, new)
     } else {
-        shorts(w, three(w, into, FIRST, first, last, old), NEW, new)
+        shorts(
+            w,
+            phrase(w, three(w, into, FIRST, first, last, old), NEW),
+            new,
+        )
     }
 }

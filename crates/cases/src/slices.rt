@@ -44,10 +44,6 @@ pub fn bytes_mut(s: &mut [u8], n: usize) -> &mut [u8] {
     }
 }
 
-pub fn number_at(s: &[u64], i: usize) -> u64 {
-    if i < s.len() { s[i] } else { 0 }
-}
-
 pub fn short_at(s: &[u16], i: usize) -> u16 {
     if i < s.len() { s[i] } else { 0 }
 }
@@ -64,23 +60,23 @@ pub fn put_byte(s: &mut [u8], i: usize, x: u8) {
     }
 }
 
-// Every fourth word from number k on, where `step` is 4: the numbers k of runs or rules that have four words each.
-pub fn words_of(numbers: &[u64], k: usize, count: usize) -> [u64; 8224] {
+// So many words of a slice, from a place on, each `step` places after the one before it.
+pub fn words_of(numbers: &[u64], from: usize, step: usize, count: usize) -> [u64; 8224] {
     let mut out = [0u64; 8224];
-    let mut at = k;
+    let mut at = from;
     let mut i = 0;
     while i < count {
         words::put_word(&mut out, i, words::word_at(numbers, at));
-        at = std::num::wrapping_add_usize(at, 4);
+        at = std::num::wrapping_add_usize(at, step);
         i += 1;
     }
     out
 }
 
 // The same as numbers of 16 bits.
-pub fn shorts_of(numbers: &[u64], k: usize, step: usize, count: usize) -> [u16; 4112] {
+pub fn shorts_of(numbers: &[u64], from: usize, step: usize, count: usize) -> [u16; 4112] {
     let mut out = [0u16; 4112];
-    let mut at = k;
+    let mut at = from;
     let mut i = 0;
     while i < count && i < 4112 {
         out[i] = (words::capped(words::word_at(numbers, at)) % 65536) as u16;

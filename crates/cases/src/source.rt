@@ -31,8 +31,9 @@ fn is_space(b: u8) -> bool {
     b == 32 || b == 10 || b == 44
 }
 
-fn is_bracket(b: u8) -> bool {
-    b == 91 || b == 93
+// What ends a word: a space or a bracket.
+fn is_end(b: u8) -> bool {
+    is_space(b) || b == 91 || b == 93
 }
 
 // Where the next word or bracket starts.
@@ -47,7 +48,7 @@ pub fn word_start(s: &[u8], from: usize) -> usize {
 // Where the word that starts here has ended.
 pub fn word_end(s: &[u8], from: usize) -> usize {
     let mut at = from;
-    while at < s.len() && !is_space(s[at]) && !is_bracket(s[at]) {
+    while at < s.len() && !is_end(s[at]) {
         at += 1;
     }
     at
@@ -126,9 +127,10 @@ pub struct Taken {
 // What a word stands for; `none` is 65,535, which stands for no match.
 fn meant(word: &[u8]) -> Number {
     if number_of(word) == NONE {
-        return Number::Value(words::wide(65535));
+        Number::Value(words::wide(65535))
+    } else {
+        text::read_number(word)
     }
-    text::read_number(word)
 }
 
 // A number that a word holds, and the position after it.
@@ -156,11 +158,12 @@ pub fn number_in(s: &[u8], from: usize, end: usize, most: u64) -> Taken {
     let g = word_in(s, from, end, 64);
     let value = words::capped(g.word);
     if value <= most {
-        return Taken { value, at: g.at };
-    }
-    Taken {
-        value: 0,
-        at: bad(from),
+        Taken { value, at: g.at }
+    } else {
+        Taken {
+            value: 0,
+            at: bad(from),
+        }
     }
 }
 

@@ -45,25 +45,14 @@ fn still() -> Swap {
     Swap { places, width: 128 }
 }
 
-fn show_wire(w: &[u8], to: usize, h: ToWire) -> usize {
-    match h {
-        ToWire::Header(x) => show::wide_number(w, to, x.0),
-        ToWire::Refused(x) => show::refusal(w, to, x),
-    }
-}
-
 // A header moved by one swap and moved back by another.
 fn moved(w: &[u8], to: usize, there: Swap, back: Swap, header: Word) -> usize {
     match there.apply(Wire(header)) {
-        ToSwapped::Header(x) => show_wire(w, to, back.undo(x)),
+        ToSwapped::Header(x) => match back.undo(x) {
+            ToWire::Header(y) => show::wide_number(w, to, y.0),
+            ToWire::Refused(y) => show::refusal(w, to, y),
+        },
         ToSwapped::Refused(x) => show::refusal(w, to, x),
-    }
-}
-
-fn show_rule(w: &[u8], to: usize, width: u32, m: MovedRule) -> usize {
-    match m {
-        MovedRule::Moved(r) => show::rule(w, to, width, r),
-        MovedRule::Refused(x) => show::refusal(w, to, x),
     }
 }
 
@@ -86,15 +75,13 @@ pub fn on_swap(call: usize, s: &[u8], from: usize, w: &[u8], to: usize) -> usize
     let swap = g.swap;
     match call {
         names::INVERT => show_swap(w, answer_at(s, g.at, to), swap.invert()),
-        names::COMPOSE => compose(swap, s, g.at, w, to),
+        names::COMPOSE => {
+            let second = swap_in(s, g.at);
+            show_swap(w, answer_at(s, second.at, to), swap.compose(second.swap))
+        }
         names::APPLY_RULE => apply_rule(swap, s, g.at, w, to),
         _ => on_header(call, swap, s, g.at, w, to),
     }
-}
-
-fn compose(swap: Swap, s: &[u8], from: usize, w: &[u8], to: usize) -> usize {
-    let second = swap_in(s, from);
-    show_swap(w, answer_at(s, second.at, to), swap.compose(second.swap))
 }
 
 // A swapped header is shown as the wire header that the swap which moves nothing gives back for it, and any number is made a swapped
@@ -110,6 +97,9 @@ fn on_header(call: usize, swap: Swap, s: &[u8], from: usize, w: &[u8], to: usize
 
 fn apply_rule(swap: Swap, s: &[u8], from: usize, w: &[u8], to: usize) -> usize {
     let r = given::one_rule(s, from, names::RULE);
-    let m = swap.apply_rule(r.rule);
-    show_rule(w, answer_at(s, r.at, to), swap.width, m)
+    let at = answer_at(s, r.at, to);
+    match swap.apply_rule(r.rule) {
+        MovedRule::Moved(moved) => show::rule(w, at, swap.width, moved),
+        MovedRule::Refused(x) => show::refusal(w, at, x),
+    }
 }

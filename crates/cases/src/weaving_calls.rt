@@ -8,13 +8,6 @@ use crate::source::answer_at;
 use weaving::Counted;
 use weaving::Woven;
 
-fn show_counted(w: &[u8], to: usize, c: Counted) -> usize {
-    match c {
-        Counted::Runs(n) => show::number(w, to, n as u64),
-        Counted::Refused(x) => show::refusal(w, to, x),
-    }
-}
-
 pub fn show_woven(w: &[u8], to: usize, woven: Woven) -> usize {
     match woven {
         Woven::Done(t) => {
@@ -26,10 +19,10 @@ pub fn show_woven(w: &[u8], to: usize, woven: Woven) -> usize {
     }
 }
 
-// `into`: the slice that takes the sizes. `at` is the position after the list.
+// `into`: the slice that takes the sizes. `from` is the position after the list.
 pub fn cut(
     s: &[u8],
-    at: usize,
+    from: usize,
     width: u32,
     care: &[u64],
     value: &[u64],
@@ -37,7 +30,7 @@ pub fn cut(
     w: &[u8],
     to: usize,
 ) -> usize {
-    let f = given::read_shorts(s, at, names::INTO);
+    let f = given::read_shorts(s, from, names::INTO);
     let mut sizes = f.numbers;
     let c = weaving::runs(
         width,
@@ -46,8 +39,16 @@ pub fn cut(
         decision,
         slices::shorts_mut(&mut sizes, f.count),
     );
-    let answer = show_counted(w, answer_at(s, f.at, to), c);
-    show::shorts(w, answer, show::INTO, slices::shorts(&sizes, f.count))
+    let at = answer_at(s, f.at, to);
+    let answer = match c {
+        Counted::Runs(n) => show::number(w, at, n as u64),
+        Counted::Refused(x) => show::refusal(w, at, x),
+    };
+    show::shorts(
+        w,
+        show::phrase(w, answer, show::INTO),
+        slices::shorts(&sizes, f.count),
+    )
 }
 
 // `into`: the list that takes the woven rules.

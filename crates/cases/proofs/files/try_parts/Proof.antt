@@ -6,7 +6,6 @@ use Rattle.cases.proofs.files.try_parts.Reads as reads
 use Rattle.cases.proofs.files.try_parts.Lts as lts
 use Rattle.cases.proofs.files.read_on.Reads as read-on-reads
 use Rattle.cases.proofs.files.try_part.Reads as try-part-reads
-use Rattle.cases.proofs.files.whole.Reads as whole-reads
 use Rattle.cases.proofs.slices.bytes.Reads as bytes-reads
 
 abbrev Inv-loop : tie.InvT-loop
@@ -29,9 +28,6 @@ sub-left c = search needs
 
 bytes-requires : tie.Need-bytes-requires Inv-loop μ-loop
 bytes-requires c κs = search needs
-
-whole-requires : tie.Need-whole-requires Inv-loop μ-loop
-whole-requires c κs = search needs
 
 try-part-requires : tie.Need-try-part-requires Inv-loop μ-loop
 try-part-requires c κs = search needs
@@ -62,7 +58,6 @@ try-parts-spec =
     loop-holds
     sub-left
     bytes-requires
-    whole-requires
     try-part-requires
     read-on-requires-2
     loop-less

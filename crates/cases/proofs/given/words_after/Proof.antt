@@ -6,7 +6,8 @@ use Rattle.cases.proofs.given.words_after.Tie as tie
 use Rattle.cases.proofs.given.words_after.Reads as reads
 use Rattle.cases.proofs.given.words_after.Lts as lts
 use Rattle.cases.proofs.given.is_more.Reads as is-more-reads
-use Rattle.cases.proofs.given.put_next.Reads as put-next-reads
+use Rattle.cases.proofs.given.put_item.Reads as put-item-reads
+use Rattle.cases.proofs.given.put_rule.Reads as put-rule-reads
 use Rattle.cases.proofs.source.bracket.Reads as bracket-reads
 
 abbrev Inv-loop : tie.InvT-loop
@@ -24,17 +25,26 @@ loop-holds c = search needs
 is-more-requires : tie.Need-is-more-requires Inv-loop μ-loop
 is-more-requires c κs = search needs
 
-put-next-requires : tie.Need-put-next-requires Inv-loop μ-loop
-put-next-requires c κs = search needs
-
 sub-left : tie.Need-sub-left Inv-loop μ-loop
 sub-left c = search needs
+
+put-rule-requires : tie.Need-put-rule-requires Inv-loop μ-loop
+put-rule-requires c κs = search needs
+
+put-item-requires : tie.Need-put-item-requires Inv-loop μ-loop
+put-item-requires c κs = search needs
 
 loop-less : tie.Need-loop-less Inv-loop μ-loop
 loop-less c = search needs
 
 loop-again : tie.Need-loop-again Inv-loop μ-loop
 loop-again c = search needs
+
+loop-less-2 : tie.Need-loop-less-2 Inv-loop μ-loop
+loop-less-2 c = search needs
+
+loop-again-2 : tie.Need-loop-again-2 Inv-loop μ-loop
+loop-again-2 c = search needs
 
 same-length : tie.Need-same-length Inv-loop μ-loop
 same-length c = search needs
@@ -57,10 +67,13 @@ words-after-spec =
     bracket-requires
     loop-holds
     is-more-requires
-    put-next-requires
     sub-left
+    put-rule-requires
+    put-item-requires
     loop-less
     loop-again
+    loop-less-2
+    loop-again-2
     same-length
     returns
     same-length-2

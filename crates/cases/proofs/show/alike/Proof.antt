@@ -4,22 +4,18 @@ use Rattle.cases.proofs.show.alike.Statement.{statement}
 use Rattle.cases.proofs.show.alike.Tie as tie
 use Rattle.cases.proofs.show.alike.Reads as reads
 use Rattle.cases.proofs.show.alike.Lts as lts
-use Rattle.cases.proofs.show.count_of.Reads as count-of-reads
 use Rattle.cases.proofs.show.item_at.Reads as item-at-reads
 use Rattle.cases.proofs.show.same_items.Reads as same-items-reads
 use Rattle.std.proofs.num.wrapping_sub_usize.Reads as wrapping-sub-usize-reads
 
 abbrev Inv-loop : tie.InvT-loop
-Inv-loop care value decision i r count end₀ end = Unit {0}
+Inv-loop care value decision i count r end₀ end = Unit {0}
 
 abbrev μ-loop : tie.MeasureT-loop
-μ-loop care value decision i r count end₀ end = count - end
+μ-loop care value decision i count r end₀ end = count - end
 
 item-at-requires : tie.Need-item-at-requires Inv-loop μ-loop
 item-at-requires c κs = search needs
-
-count-of-requires : tie.Need-count-of-requires Inv-loop μ-loop
-count-of-requires c κs = search needs
 
 loop-holds : tie.Need-loop-holds Inv-loop μ-loop
 loop-holds c = search needs
@@ -55,7 +51,6 @@ alike-spec =
     Inv-loop
     μ-loop
     item-at-requires
-    count-of-requires
     loop-holds
     item-at-requires-2
     same-items-requires

@@ -6,22 +6,17 @@ use Rattle.cases.proofs.show.items.Reads as reads
 use Rattle.cases.proofs.show.items.Lts as lts
 use Rattle.cases.proofs.show.alike.Reads as alike-reads
 use Rattle.cases.proofs.show.between.Reads as between-reads
-use Rattle.cases.proofs.show.count_of.Reads as count-of-reads
 use Rattle.cases.proofs.show.item_at.Reads as item-at-reads
 use Rattle.cases.proofs.show.left_over.Reads as left-over-reads
 use Rattle.cases.proofs.show.phrase.Reads as phrase-reads
-use Rattle.cases.proofs.show.separator.Reads as separator-reads
 use Rattle.cases.proofs.show.times.Reads as times-reads
 use Rattle.std.proofs.num.wrapping_add_usize.Reads as wrapping-add-usize-reads
 
 abbrev Inv-loop : tie.InvT-loop
-Inv-loop w from kind width care value decision count at₀ i₀ shown₀ at i shown = Unit {0}
+Inv-loop w from kind width count care value decision separator at₀ i₀ shown₀ at i shown = Unit {0}
 
 abbrev μ-loop : tie.MeasureT-loop
-μ-loop w from kind width care value decision count at₀ i₀ shown₀ at i shown = count - i
-
-count-of-requires : tie.Need-count-of-requires Inv-loop μ-loop
-count-of-requires c κs = search needs
+μ-loop w from kind width count care value decision separator at₀ i₀ shown₀ at i shown = count - i
 
 phrase-requires : tie.Need-phrase-requires Inv-loop μ-loop
 phrase-requires c κs = search needs
@@ -31,9 +26,6 @@ loop-holds c = search needs
 
 alike-requires : tie.Need-alike-requires Inv-loop μ-loop
 alike-requires c κs = search needs
-
-separator-requires : tie.Need-separator-requires Inv-loop μ-loop
-separator-requires c κs = search needs
 
 between-requires : tie.Need-between-requires Inv-loop μ-loop
 between-requires c κs = search needs
@@ -71,11 +63,9 @@ items-spec =
     (tie.spec
     Inv-loop
     μ-loop
-    count-of-requires
     phrase-requires
     loop-holds
     alike-requires
-    separator-requires
     between-requires
     item-at-requires
     times-requires

@@ -9,10 +9,10 @@ use Rattle.words.proofs.capped.Reads as capped-reads
 use Rattle.words.proofs.word_at.Reads as word-at-reads
 
 abbrev Inv-loop : tie.InvT-loop
-Inv-loop numbers k step count out₀ at₀ i₀ out at i = Unit {0}
+Inv-loop numbers from step count out₀ at₀ i₀ out at i = Unit {0}
 
 abbrev μ-loop : tie.MeasureT-loop
-μ-loop numbers k step count out₀ at₀ i₀ out at i = count - i
+μ-loop numbers from step count out₀ at₀ i₀ out at i = count - i
 
 loop-holds : tie.Need-loop-holds Inv-loop μ-loop
 loop-holds c = search needs

@@ -11,10 +11,10 @@ use Rattle.words.proofs.put_word.Reads as put-word-reads
 use Rattle.words.proofs.word_at.Reads as word-at-reads
 
 abbrev Inv-loop : tie.InvT-loop
-Inv-loop numbers k count out₀ at₀ i₀ out at i = length out ≡ 8224
+Inv-loop numbers from step count out₀ at₀ i₀ out at i = length out ≡ 8224
 
 abbrev μ-loop : tie.MeasureT-loop
-μ-loop numbers k count out₀ at₀ i₀ out at i = count - i
+μ-loop numbers from step count out₀ at₀ i₀ out at i = count - i
 
 loop-holds : tie.Need-loop-holds Inv-loop μ-loop
 loop-holds c = search needs

@@ -5,8 +5,7 @@ use Rattle.cases.proofs.source.word_end.Statement.{statement}
 use Rattle.cases.proofs.source.word_end.Tie as tie
 use Rattle.cases.proofs.source.word_end.Reads as reads
 use Rattle.cases.proofs.source.word_end.Lts as lts
-use Rattle.cases.proofs.source.is_bracket.Reads as is-bracket-reads
-use Rattle.cases.proofs.source.is_space.Reads as is-space-reads
+use Rattle.cases.proofs.source.is_end.Reads as is-end-reads
 
 abbrev Inv-loop : tie.InvT-loop
 Inv-loop s from at₀ at = Unit {0}
@@ -17,17 +16,11 @@ abbrev μ-loop : tie.MeasureT-loop
 loop-holds : tie.Need-loop-holds Inv-loop μ-loop
 loop-holds c = search needs
 
-shared-slice-read-is-space : tie.Need-shared-slice-read-is-space Inv-loop μ-loop
-shared-slice-read-is-space c = search needs
+shared-slice-read-is-end : tie.Need-shared-slice-read-is-end Inv-loop μ-loop
+shared-slice-read-is-end c = search needs
 
-is-space-requires : tie.Need-is-space-requires Inv-loop μ-loop
-is-space-requires c κs = search needs
-
-shared-slice-read-is-bracket : tie.Need-shared-slice-read-is-bracket Inv-loop μ-loop
-shared-slice-read-is-bracket c = search needs
-
-is-bracket-requires : tie.Need-is-bracket-requires Inv-loop μ-loop
-is-bracket-requires c κs = search needs
+is-end-requires : tie.Need-is-end-requires Inv-loop μ-loop
+is-end-requires c κs = search needs
 
 add-at : tie.Need-add-at Inv-loop μ-loop
 add-at c = search needs
@@ -44,9 +37,6 @@ returns c = search needs
 returns-2 : tie.Need-returns-2 Inv-loop μ-loop
 returns-2 c = search needs
 
-returns-3 : tie.Need-returns-3 Inv-loop μ-loop
-returns-3 c = search needs
-
 pub word-end-spec : {M : Type 1} → statement M
 word-end-spec =
     tie.close
@@ -54,13 +44,10 @@ word-end-spec =
     Inv-loop
     μ-loop
     loop-holds
-    shared-slice-read-is-space
-    is-space-requires
-    shared-slice-read-is-bracket
-    is-bracket-requires
+    shared-slice-read-is-end
+    is-end-requires
     add-at
     loop-less
     loop-again
     returns
-    returns-2
-    returns-3)
+    returns-2)
