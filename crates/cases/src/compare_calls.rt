@@ -2,14 +2,12 @@
 use crate::given;
 use crate::names;
 use crate::runs;
-use crate::runs::Runs;
 use crate::show;
 use crate::slices;
 use crate::source::answer_at;
 use crate::source::header;
 use crate::source::named_if;
 use rules::Wire;
-use words::Word;
 
 // `new`: the list that the old one is compared with.
 pub fn on_list(
@@ -55,9 +53,9 @@ fn compare_lists(
     w: &[u8],
     to: usize,
 ) -> usize {
-    let start = header(s, from, names::START);
-    let word = start.word;
-    let r = runs::read_runs(s, start.at);
+    let h = header(s, from, names::START);
+    let start = h.word;
+    let r = runs::read_runs(s, h.at);
     let mut first = r.first;
     let mut last = r.last;
     let mut old = r.old;
@@ -70,7 +68,7 @@ fn compare_lists(
         new_care,
         new_value,
         new_decision,
-        Wire(word),
+        Wire(start),
         slices::numbers_mut(&mut first, r.firsts),
         slices::numbers_mut(&mut last, r.lasts),
         slices::shorts_mut(&mut old, r.olds),
@@ -95,7 +93,7 @@ pub fn on_images(call: usize, s: &[u8], from: usize, w: &[u8], to: usize) -> usi
     let new_id = named_if(has_ids, s, n.at, names::ID, 65535);
     let old = o.bytes;
     let new = n.bytes;
-    with_images(
+    compare_images(
         call,
         s,
         new_id.at,
@@ -108,36 +106,21 @@ pub fn on_images(call: usize, s: &[u8], from: usize, w: &[u8], to: usize) -> usi
     )
 }
 
-// `start` and `into`.
-fn with_images(
+// `start` and `into`. The lists with these ids are compared, or the first ones.
+fn compare_images(
     call: usize,
     s: &[u8],
     from: usize,
-    old: &[u8],
-    old_id: u16,
-    new: &[u8],
-    new_id: u16,
-    w: &[u8],
-    to: usize,
-) -> usize {
-    let start = header(s, from, names::START);
-    let r = runs::read_runs(s, start.at);
-    let at = answer_at(s, r.at, to);
-    compare_images(call, old, old_id, new, new_id, start.word, r, w, at)
-}
-
-// The lists with these ids, or the first ones.
-fn compare_images(
-    call: usize,
     old_image: &[u8],
     old_id: u16,
     new_image: &[u8],
     new_id: u16,
-    start: Word,
-    r: Runs,
     w: &[u8],
     to: usize,
 ) -> usize {
+    let h = header(s, from, names::START);
+    let start = h.word;
+    let r = runs::read_runs(s, h.at);
     let mut first = r.first;
     let mut last = r.last;
     let mut old = r.old;
@@ -146,11 +129,10 @@ fn compare_images(
     let l = slices::numbers_mut(&mut last, r.lasts);
     let o = slices::shorts_mut(&mut old, r.olds);
     let n = slices::shorts_mut(&mut new, r.news);
-    let c = match call {
-        names::COMPARE_FIRST => {
-            image_compare::compare_first(old_image, new_image, Wire(start), f, l, o, n)
-        }
-        _ => image_compare::compare_lists(
+    let c = if call == names::COMPARE_FIRST {
+        image_compare::compare_first(old_image, new_image, Wire(start), f, l, o, n)
+    } else {
+        image_compare::compare_lists(
             old_image,
             old_id,
             new_image,
@@ -160,11 +142,11 @@ fn compare_images(
             l,
             o,
             n,
-        ),
+        )
     };
     show::runs(
         w,
-        show::compared(w, to, c),
+        show::compared(w, answer_at(s, r.at, to), c),
         slices::numbers(&first, r.firsts),
         slices::numbers(&last, r.lasts),
         slices::shorts(&old, r.olds),

@@ -106,46 +106,29 @@ fn say_answer(path: &[u8], line: u64, s: &[u8], wanted: &[u8]) {
     say(LINE_END);
 }
 
-// What came of a case: it could not be read, there is no answer beside it, or it answers as that says, or otherwise.
-enum Outcome {
-    Unread,
-    Open,
-    Same,
-    Other,
-}
-
-// By the position after its answer.
-fn judged(n: usize, wanted: &[u8], held: bool) -> Outcome {
-    if is_bad(n) && n < show::OTHERWISE {
-        Outcome::Unread
-    } else if !held {
-        Outcome::Open
-    } else if n == wanted.len() {
-        Outcome::Same
+// Says what a case answers, where that is not as the line beside it says, and answers how many failed.
+fn hold(path: &[u8], line: u64, s: &[u8], wanted: &[u8], end: usize) -> u64 {
+    if end == wanted.len() {
+        0
     } else {
-        Outcome::Other
+        say_answer(path, line, s, wanted);
+        say_number(path, LINE, line, EXPECTED);
+        say_line(wanted);
+        1
     }
 }
 
 // Tries one case, and answers how many failed: 0 where it answers as the line beside it says, or there is no such line, else 1.
 fn try_case(path: &[u8], line: u64, s: &[u8], wanted: &[u8], held: bool) -> u64 {
-    let n = calls::answered(s, wanted, 0);
-    match judged(n, wanted, held) {
-        Outcome::Unread => {
-            say_unread(path, line, s, n);
-            1
-        }
-        Outcome::Open => {
-            say_answer(path, line, s, wanted);
-            0
-        }
-        Outcome::Same => 0,
-        Outcome::Other => {
-            say_answer(path, line, s, wanted);
-            say_number(path, LINE, line, EXPECTED);
-            say_line(wanted);
-            1
-        }
+    let end = calls::answered(s, wanted, 0);
+    if is_bad(end) && end < show::OTHERWISE {
+        say_unread(path, line, s, end);
+        1
+    } else if held {
+        hold(path, line, s, wanted, end)
+    } else {
+        say_answer(path, line, s, wanted);
+        0
     }
 }
 
@@ -189,6 +172,7 @@ fn try_next(path: &[u8], s: &[u8], t: Tried) -> Tried {
 fn try_part(path: &[u8], s: &[u8], from: Tried) -> Tried {
     let end = if s.len() < 262144 { s.len() } else { 131073 };
     let mut t = from;
+    t.at = 0;
     let mut left = s.len();
     while left > 0 && t.at < end {
         t = try_next(path, s, t);
@@ -230,13 +214,15 @@ fn try_parts(path: &[u8], file: i32) -> Tried {
         cases: 0,
         failed: 0,
     };
-    let mut held = read_on(file, all, 0, 0);
+    let mut held = 0;
     let mut left: usize = 1000000;
-    while left > 0 && held > 0 {
+    while left > 0 {
         left -= 1;
-        t = try_part(path, slices::bytes(all, held), t);
         held = read_on(file, all, t.at, held);
-        t.at = 0;
+        if held == 0 {
+            return t;
+        }
+        t = try_part(path, slices::bytes(all, held), t);
     }
     t
 }

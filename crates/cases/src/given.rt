@@ -13,7 +13,6 @@ use crate::source::bracket;
 use crate::source::byte;
 use crate::source::byte_from;
 use crate::source::is_bad;
-use crate::source::is_closed;
 use crate::source::is_next;
 use crate::source::next;
 use crate::source::number;
@@ -190,7 +189,7 @@ fn put_rule(s: &[u8], f: Filled, out: &mut [u64]) -> Filled {
 
 // Whether there is more to read before the other bracket or the word `half`.
 fn is_more(s: &[u8], at: usize) -> bool {
-    !is_bad(at) && !is_closed(s, at) && !is_next(s, at, HALF)
+    !is_bad(at) && byte(s, word_start(s, at)) != 93 && !is_next(s, at, HALF)
 }
 
 // What stands for `bits` where rules are read.
@@ -328,8 +327,8 @@ fn pattern(s: &[u8], from: usize, end: usize) -> Ruled {
     let mut value = words::wide(0);
     let mut at = from;
     while at < end && is_place(byte(s, at)) {
-        care = words::pushed(care, place(byte(s, at) != 42));
-        value = words::pushed(value, place(byte(s, at) == 49));
+        care = words::pushed(care, (byte(s, at) != 42) as u64);
+        value = words::pushed(value, (byte(s, at) == 49) as u64);
         at += 1;
     }
     rule_of(care, value, 0, pattern_end(from, at, end))
@@ -337,10 +336,6 @@ fn pattern(s: &[u8], from: usize, end: usize) -> Ruled {
 
 fn is_place(b: u8) -> bool {
     b == 42 || b == 48 || b == 49
-}
-
-fn place(set: bool) -> u64 {
-    if set { 1 } else { 0 }
 }
 
 // The end of a pattern that was read up to a position; a bad one where that is not all of it, or it has more than 128 places.

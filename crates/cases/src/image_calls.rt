@@ -1,6 +1,5 @@
 // The calls on images: the crates `image`, `image_writer` and `image_weaving`.
 use crate::given;
-use crate::given::List;
 use crate::names;
 use crate::show;
 use crate::slices;
@@ -71,7 +70,7 @@ fn width_of(image: &[u8]) -> u32 {
 
 // `into`: the list that takes the rules.
 fn read(image: &[u8], id: u16, s: &[u8], from: usize, w: &[u8], to: usize) -> usize {
-    let l = given::read_list(s, from, names::INTO);
+    let mut l = given::read_list(s, from, names::INTO);
     let mut care = l.care;
     let mut value = l.value;
     let mut decision = l.decision;
@@ -82,21 +81,11 @@ fn read(image: &[u8], id: u16, s: &[u8], from: usize, w: &[u8], to: usize) -> us
         slices::numbers_mut(&mut value, l.values),
         slices::shorts_mut(&mut decision, l.decisions),
     );
+    l.care = care;
+    l.value = value;
+    l.decision = decision;
     let answer = show_outcome(w, answer_at(s, l.at, to), o);
-    show::list(
-        w,
-        show::phrase(w, answer, show::INTO),
-        width_of(image),
-        List {
-            care,
-            value,
-            decision,
-            cares: l.cares,
-            values: l.values,
-            decisions: l.decisions,
-            at: l.at,
-        },
-    )
+    show::list(w, show::phrase(w, answer, show::INTO), width_of(image), l)
 }
 
 // The call `write`: it has a format, a width and a list, and after these `ids`, `counts` and `into`, the bytes that take the image.

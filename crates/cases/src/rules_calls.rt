@@ -1,6 +1,5 @@
 // The calls on lists of rules and on rules: the crates `rules` and `pairs`, and the lookup of a swapped header beside the other two.
 use crate::given;
-use crate::given::List;
 use crate::names;
 use crate::show;
 use crate::slices;
@@ -150,7 +149,7 @@ fn pair(call: usize, width: u32, s: &[u8], from: usize, w: &[u8], to: usize) -> 
 
 // `list`, `place` and `rule`: the list is shown as it is then.
 pub fn put_rule(s: &[u8], from: usize, w: &[u8], to: usize) -> usize {
-    let l = given::read_list(s, from, names::LIST);
+    let mut l = given::read_list(s, from, names::LIST);
     let place = named(s, l.at, names::PLACE, 18446744073709551615);
     let r = given::one_rule(s, place.at, names::RULE);
     let mut care = l.care;
@@ -163,18 +162,8 @@ pub fn put_rule(s: &[u8], from: usize, w: &[u8], to: usize) -> usize {
         place.value as usize,
         r.rule,
     );
-    show::list(
-        w,
-        show::phrase(w, answer_at(s, r.at, to), show::LIST),
-        0,
-        List {
-            care,
-            value,
-            decision,
-            cares: l.cares,
-            values: l.values,
-            decisions: l.decisions,
-            at: l.at,
-        },
-    )
+    l.care = care;
+    l.value = value;
+    l.decision = decision;
+    show::list(w, show::phrase(w, answer_at(s, r.at, to), show::LIST), 0, l)
 }

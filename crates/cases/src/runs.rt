@@ -24,18 +24,14 @@ pub struct Runs {
     pub at: usize,
 }
 
-// Whether the answers of all runs are answers that a slice can hold.
-fn are_answers(numbers: &[u64], count: usize) -> bool {
+// The position after so many numbers, where they are whole runs and their answers are such that a slice can hold; else a bad one at their
+// start.
+fn whole_runs(numbers: &[u64], count: usize, start: usize, end: usize) -> usize {
     let mut i = 0;
     while i < count && (i % 4 < 2 || words::below(words::word_at(numbers, i), 16)) {
         i += 1;
     }
-    i == count
-}
-
-// The position after so many numbers, where they are whole runs; else a bad one at their start.
-fn whole_runs(numbers: &[u64], count: usize, start: usize, end: usize) -> usize {
-    if is_bad(end) || count % 4 == 0 && are_answers(numbers, count) {
+    if is_bad(end) || i == count && count % 4 == 0 {
         end
     } else {
         bad(start)

@@ -92,10 +92,8 @@ pub fn is_next(s: &[u8], from: usize, name: usize) -> bool {
 
 // The position after the next word, which has to be the one with this number.
 pub fn after(s: &[u8], from: usize, name: usize) -> usize {
-    let at = word_start(s, from);
-    let end = word_end(s, at);
-    if number_of(part(s, at, end)) == name {
-        end
+    if is_next(s, from, name) {
+        word_end(s, word_start(s, from))
     } else {
         bad(from)
     }
@@ -105,10 +103,6 @@ pub fn after(s: &[u8], from: usize, name: usize) -> usize {
 pub fn bracket(s: &[u8], from: usize, b: u8) -> usize {
     let at = word_start(s, from);
     if byte(s, at) == b { next(at) } else { bad(at) }
-}
-
-pub fn is_closed(s: &[u8], from: usize) -> bool {
-    byte(s, word_start(s, from)) == 93
 }
 
 // Where the answer to a case goes that is read up to a position: to `to`, where nothing is left to read. Else a bad position, at which

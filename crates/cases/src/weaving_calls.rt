@@ -1,6 +1,5 @@
 // The calls that cut and weave a list: the crate `weaving`.
 use crate::given;
-use crate::given::List;
 use crate::names;
 use crate::show;
 use crate::slices;
@@ -62,7 +61,7 @@ pub fn weave(
     w: &[u8],
     to: usize,
 ) -> usize {
-    let l = given::read_list(s, at, names::INTO);
+    let mut l = given::read_list(s, at, names::INTO);
     let mut to_care = l.care;
     let mut to_value = l.value;
     let mut to_decision = l.decision;
@@ -75,19 +74,9 @@ pub fn weave(
         slices::numbers_mut(&mut to_value, l.values),
         slices::shorts_mut(&mut to_decision, l.decisions),
     );
+    l.care = to_care;
+    l.value = to_value;
+    l.decision = to_decision;
     let answer = show_woven(w, answer_at(s, l.at, to), woven);
-    show::list(
-        w,
-        show::phrase(w, answer, show::INTO),
-        width,
-        List {
-            care: to_care,
-            value: to_value,
-            decision: to_decision,
-            cares: l.cares,
-            values: l.values,
-            decisions: l.decisions,
-            at: l.at,
-        },
-    )
+    show::list(w, show::phrase(w, answer, show::INTO), width, l)
 }

@@ -1,4 +1,3 @@
-use native.Mathlib.Omega.{arith}
 use borrow.Author.Needs.{needs}
 use Rattle.cases.proofs.files.try_parts.Statement.{statement}
 use Rattle.cases.proofs.files.try_parts.Tie as tie
@@ -17,14 +16,17 @@ abbrev μ-loop : tie.MeasureT-loop
 slice-aggregate-all : tie.Need-slice-aggregate-all Inv-loop μ-loop
 slice-aggregate-all c = search needs
 
-read-on-requires : tie.Need-read-on-requires Inv-loop μ-loop
-read-on-requires c κs = search needs
-
 loop-holds : tie.Need-loop-holds Inv-loop μ-loop
 loop-holds c = search needs
 
 sub-left : tie.Need-sub-left Inv-loop μ-loop
 sub-left c = search needs
+
+read-on-requires : tie.Need-read-on-requires Inv-loop μ-loop
+read-on-requires c κs = search needs
+
+returns : tie.Need-returns Inv-loop μ-loop
+returns c = search needs
 
 bytes-requires : tie.Need-bytes-requires Inv-loop μ-loop
 bytes-requires c κs = search needs
@@ -32,17 +34,11 @@ bytes-requires c κs = search needs
 try-part-requires : tie.Need-try-part-requires Inv-loop μ-loop
 try-part-requires c κs = search needs
 
-read-on-requires-2 : tie.Need-read-on-requires-2 Inv-loop μ-loop
-read-on-requires-2 c κs = search needs
-
 loop-less : tie.Need-loop-less Inv-loop μ-loop
-loop-less c = omega arith
+loop-less c = search needs
 
 loop-again : tie.Need-loop-again Inv-loop μ-loop
 loop-again c = search needs
-
-returns : tie.Need-returns Inv-loop μ-loop
-returns c = search needs
 
 returns-2 : tie.Need-returns-2 Inv-loop μ-loop
 returns-2 c = search needs
@@ -54,13 +50,12 @@ try-parts-spec =
     Inv-loop
     μ-loop
     slice-aggregate-all
-    read-on-requires
     loop-holds
     sub-left
+    read-on-requires
+    returns
     bytes-requires
     try-part-requires
-    read-on-requires-2
     loop-less
     loop-again
-    returns
     returns-2)

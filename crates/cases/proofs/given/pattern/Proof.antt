@@ -6,7 +6,6 @@ use Rattle.cases.proofs.given.pattern.Reads as reads
 use Rattle.cases.proofs.given.pattern.Lts as lts
 use Rattle.cases.proofs.given.is_place.Reads as is-place-reads
 use Rattle.cases.proofs.given.pattern_end.Reads as pattern-end-reads
-use Rattle.cases.proofs.given.place.Reads as place-reads
 use Rattle.cases.proofs.given.rule_of.Reads as rule-of-reads
 use Rattle.cases.proofs.source.byte.Reads as byte-reads
 use Rattle.words.proofs.wide.Reads as wide-reads
@@ -36,8 +35,8 @@ is-place-requires c κs = search needs
 byte-requires-2 : tie.Need-byte-requires-2 Inv-loop μ-loop
 byte-requires-2 c κs = search needs
 
-place-requires : tie.Need-place-requires Inv-loop μ-loop
-place-requires c κs = search needs
+cast-pushed : tie.Need-cast-pushed Inv-loop μ-loop
+cast-pushed c = search needs
 
 pushed-requires : tie.Need-pushed-requires Inv-loop μ-loop
 pushed-requires c κs = search needs
@@ -45,8 +44,8 @@ pushed-requires c κs = search needs
 byte-requires-3 : tie.Need-byte-requires-3 Inv-loop μ-loop
 byte-requires-3 c κs = search needs
 
-place-requires-2 : tie.Need-place-requires-2 Inv-loop μ-loop
-place-requires-2 c κs = search needs
+cast-pushed-2 : tie.Need-cast-pushed-2 Inv-loop μ-loop
+cast-pushed-2 c = search needs
 
 pushed-requires-2 : tie.Need-pushed-requires-2 Inv-loop μ-loop
 pushed-requires-2 c κs = search needs
@@ -81,10 +80,10 @@ pattern-spec =
     byte-requires
     is-place-requires
     byte-requires-2
-    place-requires
+    cast-pushed
     pushed-requires
     byte-requires-3
-    place-requires-2
+    cast-pushed-2
     pushed-requires-2
     add-at
     loop-less

@@ -1,17 +1,19 @@
 use borrow.Author.Needs.{needs}
 use Prim.Native.Nat.{_-_}
-use Rattle.cases.proofs.runs.are_answers.Statement.{statement}
-use Rattle.cases.proofs.runs.are_answers.Tie as tie
-use Rattle.cases.proofs.runs.are_answers.Reads as reads
-use Rattle.cases.proofs.runs.are_answers.Lts as lts
+use Rattle.cases.proofs.runs.whole_runs.Statement.{statement}
+use Rattle.cases.proofs.runs.whole_runs.Tie as tie
+use Rattle.cases.proofs.runs.whole_runs.Reads as reads
+use Rattle.cases.proofs.runs.whole_runs.Lts as lts
+use Rattle.cases.proofs.source.bad.Reads as bad-reads
+use Rattle.cases.proofs.source.is_bad.Reads as is-bad-reads
 use Rattle.words.proofs.below.Reads as below-reads
 use Rattle.words.proofs.word_at.Reads as word-at-reads
 
 abbrev Inv-loop : tie.InvT-loop
-Inv-loop numbers count i₀ i = Unit {0}
+Inv-loop numbers count start end i₀ i = Unit {0}
 
 abbrev μ-loop : tie.MeasureT-loop
-μ-loop numbers count i₀ i = count - i
+μ-loop numbers count start end i₀ i = count - i
 
 loop-holds : tie.Need-loop-holds Inv-loop μ-loop
 loop-holds c = search needs
@@ -31,11 +33,20 @@ loop-less c = search needs
 loop-again : tie.Need-loop-again Inv-loop μ-loop
 loop-again c = search needs
 
+is-bad-requires : tie.Need-is-bad-requires Inv-loop μ-loop
+is-bad-requires c κs = search needs
+
+bad-requires : tie.Need-bad-requires Inv-loop μ-loop
+bad-requires c κs = search needs
+
 returns : tie.Need-returns Inv-loop μ-loop
 returns c = search needs
 
-pub are-answers-spec : {M : Type 1} → statement M
-are-answers-spec =
+returns-2 : tie.Need-returns-2 Inv-loop μ-loop
+returns-2 c = search needs
+
+pub whole-runs-spec : {M : Type 1} → statement M
+whole-runs-spec =
     tie.close
     (tie.spec
     Inv-loop
@@ -46,4 +57,7 @@ are-answers-spec =
     add-i
     loop-less
     loop-again
-    returns)
+    is-bad-requires
+    bad-requires
+    returns
+    returns-2)
