@@ -2,12 +2,14 @@
 use crate::given;
 use crate::names;
 use crate::runs;
+use crate::runs::Runs;
 use crate::show;
 use crate::slices;
 use crate::source::answer_at;
 use crate::source::header;
 use crate::source::named_if;
 use rules::Wire;
+use words::Word;
 
 // `new`: the list that the old one is compared with.
 pub fn on_list(
@@ -24,7 +26,7 @@ pub fn on_list(
     let care = l.care;
     let value = l.value;
     let decision = l.decision;
-    compare_lists(
+    on_lists(
         s,
         l.at,
         width,
@@ -40,7 +42,7 @@ pub fn on_list(
 }
 
 // `start` and `into`.
-fn compare_lists(
+fn on_lists(
     s: &[u8],
     from: usize,
     width: u32,
@@ -53,9 +55,36 @@ fn compare_lists(
     w: &[u8],
     to: usize,
 ) -> usize {
-    let h = header(s, from, names::START);
-    let start = h.word;
-    let r = runs::read_runs(s, h.at);
+    let start = header(s, from, names::START);
+    let r = runs::read_runs(s, start.at);
+    compare_lists(
+        width,
+        old_care,
+        old_value,
+        old_decision,
+        new_care,
+        new_value,
+        new_decision,
+        start.word,
+        r,
+        w,
+        answer_at(s, r.at, to),
+    )
+}
+
+fn compare_lists(
+    width: u32,
+    old_care: &[u64],
+    old_value: &[u64],
+    old_decision: &[u16],
+    new_care: &[u64],
+    new_value: &[u64],
+    new_decision: &[u16],
+    start: Word,
+    mut r: Runs,
+    w: &[u8],
+    to: usize,
+) -> usize {
     let mut first = r.first;
     let mut last = r.last;
     let mut old = r.old;
@@ -74,14 +103,11 @@ fn compare_lists(
         slices::shorts_mut(&mut old, r.olds),
         slices::shorts_mut(&mut new, r.news),
     );
-    show::runs(
-        w,
-        show::compared(w, answer_at(s, r.at, to), c),
-        slices::numbers(&first, r.firsts),
-        slices::numbers(&last, r.lasts),
-        slices::shorts(&old, r.olds),
-        slices::shorts(&new, r.news),
-    )
+    r.first = first;
+    r.last = last;
+    r.old = old;
+    r.new = new;
+    show::runs(w, show::compared(w, to, c), r)
 }
 
 // `old` and `new`, each with the `id` of its list in the call `compare_lists`.
@@ -93,7 +119,7 @@ pub fn on_images(call: usize, s: &[u8], from: usize, w: &[u8], to: usize) -> usi
     let new_id = named_if(has_ids, s, n.at, names::ID, 65535);
     let old = o.bytes;
     let new = n.bytes;
-    compare_images(
+    with_images(
         call,
         s,
         new_id.at,
@@ -106,21 +132,37 @@ pub fn on_images(call: usize, s: &[u8], from: usize, w: &[u8], to: usize) -> usi
     )
 }
 
-// `start` and `into`. The lists with these ids are compared, or the first ones.
-fn compare_images(
+// `start` and `into`.
+fn with_images(
     call: usize,
     s: &[u8],
     from: usize,
-    old_image: &[u8],
+    old: &[u8],
     old_id: u16,
-    new_image: &[u8],
+    new: &[u8],
     new_id: u16,
     w: &[u8],
     to: usize,
 ) -> usize {
-    let h = header(s, from, names::START);
-    let start = h.word;
-    let r = runs::read_runs(s, h.at);
+    let start = header(s, from, names::START);
+    let word = start.word;
+    let r = runs::read_runs(s, start.at);
+    let at = answer_at(s, r.at, to);
+    compare_images(call, old, old_id, new, new_id, Wire(word), r, w, at)
+}
+
+// The lists with these ids, or the first ones.
+fn compare_images(
+    call: usize,
+    old_image: &[u8],
+    old_id: u16,
+    new_image: &[u8],
+    new_id: u16,
+    start: Wire,
+    mut r: Runs,
+    w: &[u8],
+    to: usize,
+) -> usize {
     let mut first = r.first;
     let mut last = r.last;
     let mut old = r.old;
@@ -130,26 +172,13 @@ fn compare_images(
     let o = slices::shorts_mut(&mut old, r.olds);
     let n = slices::shorts_mut(&mut new, r.news);
     let c = if call == names::COMPARE_FIRST {
-        image_compare::compare_first(old_image, new_image, Wire(start), f, l, o, n)
+        image_compare::compare_first(old_image, new_image, start, f, l, o, n)
     } else {
-        image_compare::compare_lists(
-            old_image,
-            old_id,
-            new_image,
-            new_id,
-            Wire(start),
-            f,
-            l,
-            o,
-            n,
-        )
+        image_compare::compare_lists(old_image, old_id, new_image, new_id, start, f, l, o, n)
     };
-    show::runs(
-        w,
-        show::compared(w, answer_at(s, r.at, to), c),
-        slices::numbers(&first, r.firsts),
-        slices::numbers(&last, r.lasts),
-        slices::shorts(&old, r.olds),
-        slices::shorts(&new, r.news),
-    )
+    r.first = first;
+    r.last = last;
+    r.old = old;
+    r.new = new;
+    show::runs(w, show::compared(w, to, c), r)
 }

@@ -2,6 +2,7 @@
 // function answers the position after what it has said, or `OTHERWISE` where the text is another. At the position `ALOUD` the answer is
 // written to standard output instead.
 use crate::given::List;
+use crate::runs::Runs;
 use crate::slices;
 use crate::source::byte;
 use crate::source::is_bad;
@@ -404,14 +405,28 @@ fn runs_of(w: &[u8], from: usize, first: &[u64], last: &[u64], old: &[u16], new:
 }
 
 // What `into` holds after a comparison: runs, or the four slices one by one where they differ in length.
-pub fn runs(w: &[u8], at: usize, first: &[u64], last: &[u64], old: &[u16], new: &[u16]) -> usize {
-    let into = phrase(w, at, INTO);
+pub fn runs(w: &[u8], at: usize, r: Runs) -> usize {
+    let first = r.first;
+    let last = r.last;
+    let old = r.old;
+    let new = r.new;
+    lent_runs(
+        w,
+        phrase(w, at, INTO),
+        slices::numbers(&first, r.firsts),
+        slices::numbers(&last, r.lasts),
+        slices::shorts(&old, r.olds),
+        slices::shorts(&new, r.news),
+    )
+}
+
+fn lent_runs(w: &[u8], at: usize, first: &[u64], last: &[u64], old: &[u16], new: &[u16]) -> usize {
     if first.len() == last.len() && first.len() == old.len() * 2 && old.len() == new.len() {
-        runs_of(w, into, first, last, old, new)
+        runs_of(w, at, first, last, old, new)
     } else {
         shorts(
             w,
-            phrase(w, three(w, into, FIRST, first, last, old), NEW),
+            phrase(w, three(w, at, FIRST, first, last, old), NEW),
             new,
         )
     }
