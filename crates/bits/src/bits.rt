@@ -64,14 +64,11 @@ pub fn ones(a: Word) -> u32
     u64::count_ones(a.low) + u64::count_ones(a.high)
 }
 
-// Whether one bit of a machine word is set, and no other: without its lowest set bit nothing is left of it.
+// Whether one bit of a machine word is set, and no other.
 fn is_bit(x: u64) -> bool
     ensures { λ r. ⌜ r ≡ eqb (setBits x) 1 ⌝ }
 {
-    if x == 0 {
-        return false;
-    }
-    x & (x - 1) == 0
+    u64::count_ones(x) == 1
 }
 
 // Whether exactly one bit is set.
