@@ -247,7 +247,7 @@ impl Search {
             return None;
         }
         let want = wanted(old, new, o, n, p, care);
-        let place = if want != 0 { 1 << (127 - want.leading_zeros()) } else { 1 << (!care).trailing_zeros() };
+        let place = if want != 0 { 1 << (127 - want.leading_zeros()) } else { 1 << (127 - (!care).leading_zeros()) };
         let low = self.differs(old, new, ol.clone(), nl.clone(), om, nm, care | place, value, true);
         if low.is_some() {
             return low;
