@@ -43,7 +43,7 @@ def address(a, b, c, d):
     return a << 24 | b << 16 | c << 8 | d
 
 
-def permitted(source, source_places, destination, destination_places, decision):
+def rule(source, source_places, destination, destination_places, decision):
     care = first(32, source_places) << 32 | first(32, destination_places)
     return care, (source << 32 | destination) & care, decision
 
@@ -56,11 +56,11 @@ def access(make):
             source = address(10, site, subnet * 16, 0)
             service = address(192, 168, make.randrange(64), make.randrange(16) * 16)
             if make.random() < 0.3:
-                rules.append(permitted(source, 28, service, 24, deny))
+                rules.append(rule(source, 28, service, 24, deny))
             for host in make.sample(range(16), make.randrange(6, 14)):
-                rules.append(permitted(source, 24, service + host, 32, permit))
+                rules.append(rule(source, 24, service + host, 32, permit))
         for network in make.sample(range(64), 4):
-            rules.append(permitted(address(10, site, 0, 0), 16, address(192, 168, network, 0), 24, permit))
+            rules.append(rule(address(10, site, 0, 0), 16, address(192, 168, network, 0), 24, permit))
     return rules + [(0, 0, deny)]
 
 
