@@ -2,6 +2,7 @@
 pub mod WordLaws
 pub mod SwapLaws
 pub mod MoveLaws
+pub mod ReturnLaws
 pub mod SwapSteps
 pub mod SwapCallLaws
 pub mod SwapTheorems

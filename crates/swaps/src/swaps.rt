@@ -2,7 +2,7 @@
 // swapped order, and only by a swap.
 ghost use mathlib.Core.Path.{_≡_};
 ghost use mathlib.Core.Bool.{true};
-ghost use Prim.Native.Nat.{_≤_, _<_};
+ghost use Prim.Native.Nat.{_≤_, _<_, _^_};
 ghost use Rattle.words.specs.Words.{placeBit};
 ghost use Rattle.words.specs.Halves.{num, halves};
 ghost use Rattle.rules.specs.Rule.{ruleOf};
@@ -150,6 +150,22 @@ fn moved_word(places: &[u8; 128], width: u32, word: Word) -> Word
     acc
 }
 
+// The word with its bits moved back: each set bit, found from the left, goes to the place that its entry names.
+fn returned_word(places: &[u8; 128], width: u32, word: Word) -> Word
+    requires { ⌜ (width ≤ widest) × (good widest width (now places) ≡ true) × (num word < 2 ^ width) ⌝ }
+    ensures { λ r. ⌜ r ≡ halves (moved width (inverse widest width (now (places .entry))) (num word)) ⌝ }
+{
+    let mut out = words::wide(0);
+    let mut left = word;
+    while !words::is_zero(left) {
+        let weight = 127 - bits::leading_zeros(left);
+        let place = places[(width - 1 - weight) as usize] as u32;
+        out = bits::or(out, bits::single(width - place));
+        left = bits::without(left, bits::single(weight));
+    }
+    out
+}
+
 // The places of the inverse.
 fn inverse_places(places: &[u8; 128], width: usize) -> [u8; 128]
     requires { ⌜ width ≤ widest ⌝ }
@@ -292,7 +308,7 @@ impl Swap {
         ToSwapped::Header(Swapped(moved_word(&places, width, word)))
     }
 
-    // Moves a header from swapped order back into wire order, through the inverse.
+    // Moves a header from swapped order back into wire order.
     pub fn undo(self, header: Swapped) -> ToWire
         ensures { λ r. ⌜ r ≡ toWireAnswer (undoneHeader widest self (num (header .0))) ⌝ }
     {
@@ -303,8 +319,7 @@ impl Swap {
         if let Verdict::Refused(x) = v {
             return ToWire::Refused(x);
         }
-        let back = inverse_places(&places, width as usize);
-        ToWire::Header(Wire(moved_word(&back, width, swapped)))
+        ToWire::Header(Wire(returned_word(&places, width, swapped)))
     }
 
     // The swap that undoes this one.
