@@ -1,4 +1,4 @@
--- Laws of the words that the engine makes: the places from k up, one place, the ends of a block, and a full word.
+-- Laws of the words that the engine makes: the places from k up, the ends of a block, and a full word.
 use Prim.Native.Nat.{ℕ, suc, _+_, _-_, _*_, _%_, _^_, _≤_, _<_, min}
 use mathlib.Core.List.{List}
 use mathlib.Core.Path.{_≡_, sym, ap, ap₂, _∙_, subst}
@@ -8,7 +8,7 @@ use native.Mathlib.Nat.{mod-eq-of-lt}
 use lib.ListN.{length, getD}
 use lib.Dec.{eqb}
 use lib.Bits.{bitAnd, bitOr, or-disjoint}
-use lib.Pow.{pow-pos, pow-lt}
+use lib.Pow.{pow-pos}
 use Rattle.words.specs.declared.Word.{Word}
 use Rattle.words.specs.Halves.{word, num, halves, limit}
 use Rattle.words.specs.Slices.{wordsOf}
@@ -35,9 +35,6 @@ full-told {r} n t l e q =
     let s : Says r (t ≡ 0) = says t 0 q in
     ((λ p. let z : t ≡ 0 = s .0 p in omega arith), λ p f. s .1 p (omega arith))
 
-power-below : (k : ℕ) → k < 128 → 2 ^ k < limit
-power-below k l = subst (λ (x : ℕ). 2 ^ k < x) (sym limit-pow) (pow-lt l)
-
 pub above-told : (k : ℕ) {x : Word} → k ≤ 128 → x ≡ halves (limit - 2 ^ min k 128) → num x ≡ limit - 2 ^ k
 above-told k {x} l e = holds e ∙ ap (λ (y : ℕ). limit - 2 ^ y) (omega arith)
 
@@ -49,9 +46,6 @@ lowest-told k {x} l e =
 -- all places
 pub all-told : {x : Word} → x ≡ halves (2 ^ min 128 128 - 1) → num x ≡ limit - 1
 all-told {x} e = holds e ∙ ap (λ (y : ℕ). y - 1) (sym limit-pow)
-
-pub place-told : (k : ℕ) {x : Word} → k < 128 → x ≡ halves (2 ^ k % limit) → num x ≡ 2 ^ k
-place-told k {x} l e = holds e ∙ mod-eq-of-lt (power-below k l)
 
 -- a sum that fits
 sum-told : (a b : ℕ) {x : Word} → a + b < limit → x ≡ halves ((a + b) % limit) → num x ≡ a + b

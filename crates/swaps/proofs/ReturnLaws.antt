@@ -5,7 +5,7 @@ use mathlib.Core.List.{List}
 use mathlib.Core.Bool.{Bool, true, not}
 use Prim.Native.Nat.{ℕ, suc, _+_, _-_, _*_, _%_, _^_, _≤_, _<_}
 use native.Mathlib.Omega.{arith}
-use native.Mathlib.Nat.{zero-div, one-mul, mod-eq-of-lt}
+use native.Mathlib.Nat.{zero-div, one-mul}
 use native.Mathlib.Decide.{ℕ-discrete}
 use lib.Bits.{bitAnd, bitOr, and-le-l, or-lt}
 use lib.Count.{leadingZeros, leading-top}
@@ -18,7 +18,7 @@ use Rattle.words.specs.Halves.{num, halves, limit}
 use Rattle.words.proofs.Tests.{not-true, no-eqb}
 use Rattle.words.proofs.BitLaws.{and-pow, bit<2, bit-without, bit-power, power-other, or-power, or-other}
 use Rattle.words.proofs.SeamLaws.{leading-low}
-use Rattle.words.proofs.WordLaws.{holds, limit-pow}
+use Rattle.words.proofs.WordLaws.{holds, single-told}
 use Rattle.bits.proofs.ZeroLaws.{leading-set}
 use Rattle.swaps.specs.Swaps.{moved, good, inverse}
 use Rattle.swaps.proofs.WordLaws.{same-places}
@@ -49,7 +49,7 @@ top k w a {z} {t} u h e some f =
 
 -- what is made of a number and a word of one bit
 pub of-one : (f : ℕ → ℕ) (k : ℕ) {one r : Word} → k < 128 → one ≡ halves (2 ^ k % limit) → r ≡ halves (f (num one)) → num r ≡ f (2 ^ k)
-of-one f k h e g = holds g ∙ ap f (holds e ∙ ap (λ (n : ℕ). 2 ^ k % n) limit-pow ∙ mod-eq-of-lt (pow-lt h))
+of-one f k h e g = holds g ∙ ap f (single-told k h e)
 
 -- a word that was made is the word of its number
 pub word-held : {x : Word} (n : ℕ) → x ≡ halves n → x ≡ halves (num x)

@@ -257,6 +257,10 @@ single-past k p =
     let e : 2 ^ k ≡ 2 ^ (k - 128) * limit = split-at 128 k p ∙ ap (λ (x : ℕ). 2 ^ (k - 128) * x) (sym limit-pow) in
     cut 0 0 (2 ^ (k - 128)) (2 ^ k) (omega arith) (omega arith) (omega arith)
 
+-- the number of the word with one bit
+pub single-told : (k : ℕ) {x : Word} → k < 128 → x ≡ halves (2 ^ k % limit) → num x ≡ 2 ^ k
+single-told k h e = holds e ∙ ap (λ (n : ℕ). 2 ^ k % n) limit-pow ∙ mod-eq-of-lt (pow-lt h)
+
 at-min : (k m : ℕ) → min k 128 ≡ m → 2 ^ min k 128 - 1 ≡ 2 ^ m - 1
 at-min k m e = ap (λ (x : ℕ). 2 ^ x - 1) e
 
