@@ -1,9 +1,9 @@
 -- Laws of the zeros at the left end of a number of k bits: above the highest set bit there is none, and that bit is set.
-use mathlib.Core.Path.{_≡_, sym, ap, _∙_, subst}
-use Prim.Native.Nat.{ℕ, zero, suc, _+_, _-_, _*_, _/_, _%_, _^_, _≤_, _<_}
+use mathlib.Core.Path.{_≡_, subst}
+use Prim.Native.Nat.{ℕ, suc, _+_, _-_, _/_, _^_, _≤_, _<_}
 use native.Mathlib.Omega.{arith}
 use native.Mathlib.Nat.{pow-suc, div-lt-iff-lt-mul, le-div-iff-mul-le}
-use lib.Count.{leadingZeros, leading-of-zero, leading-length, leading-top}
+use lib.Count.{leadingZeros, leading-length, leading-top}
 use lib.Pow.{pow-pos}
 use Rattle.words.specs.Words.{bit}
 use Rattle.words.proofs.BitLaws.{bit-high}
@@ -21,10 +21,9 @@ top-bit a j l h =
     let high : a / 2 ^ j < 2 = div-lt-iff-lt-mul (pow-pos j) .1 (omega (arith, pow-suc 2 j)) in
     omega arith
 
--- the bit behind them is set, where there is one
-pub leading-set : (k a : ℕ) → a < 2 ^ k → leadingZeros k a < k → bit a (k - 1 - leadingZeros k a) ≡ 1
-leading-set k zero h l = absurd (let f : ⊥ = omega (arith, leading-of-zero k) in f)
-leading-set k (suc n) h l =
-    let t = leading-top k (suc n) (omega arith) h in
-    let e : t .0 ≡ k - 1 - leadingZeros k (suc n) = omega (arith, t .1) in
-    subst (λ (j : ℕ). bit (suc n) j ≡ 1) e (top-bit (suc n) (t .0) (t .2) (t .3))
+-- of a number that is not 0 there are fewer than k, and the bit behind them is set
+pub leading-set : (k a : ℕ) → a < 2 ^ k → (a ≡ 0 → ⊥) → (leadingZeros k a < k) × (bit a (k - 1 - leadingZeros k a) ≡ 1)
+leading-set k a h some =
+    let t = leading-top k a (omega (arith, some)) h in
+    let e : t .0 ≡ k - 1 - leadingZeros k a = omega (arith, t .1) in
+    (omega (arith, t .1), subst (λ (j : ℕ). bit a j ≡ 1) e (top-bit a (t .0) (t .2) (t .3)))

@@ -8,7 +8,7 @@ use native.Mathlib.Omega.{arith}
 use native.Mathlib.Nat.{zero-div, one-mul}
 use native.Mathlib.Decide.{ℕ-discrete}
 use lib.Bits.{bitAnd, bitOr, and-le-l, or-lt}
-use lib.Count.{leadingZeros, leading-top}
+use lib.Count.{leadingZeros}
 use lib.Dec.{eqb}
 use lib.ListN.{getD}
 use lib.Pow.{pow-pos, pow-lt}
@@ -35,14 +35,14 @@ pub record Top (k w a z : ℕ) : Type 0 where
 pub top : (k w a : ℕ) {z : ℕ} {t : Bool} → w ≤ k → a < 2 ^ w → t ≡ eqb a 0 → not t ≡ true → z ≡ leadingZeros k a → Top k w a z
 top k w a {z} {t} u h e some f =
     let n : a ≢ 0 = no-eqb a 0 (sym e ∙ not-true t some) in
-    let s = leading-top w a (omega arith) h in
+    let s = leading-set w a h n in
     let q : k - w + w ≡ k = omega arith in
     let g : leadingZeros k a ≡ k - w + leadingZeros w a = rw q at (leading-low (k - w) w a h) in
     let i : k - 1 - z ≡ w - 1 - leadingZeros w a = omega arith in
     record {
-      few = omega (arith, s .1);
-      inside = omega (arith, s .1);
-      set = rw i (leading-set w a h (omega (arith, s .1)));
+      few = omega (arith, s .0);
+      inside = omega (arith, s .0);
+      set = rw i (s .1);
     }
 
 -- ---- words
