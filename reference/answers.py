@@ -250,9 +250,13 @@ def runs_said(first, last, old, new):
     return " into [%s]" % ", ".join("%d %d %s %s" % (a, b, none(o), none(n)) for a, b, o, n in runs)
 
 
-def decided(call, *arguments):
-    text = said(call, *arguments)
-    return "none" if text == str(model.NO_MATCH) else text
+def looked_up(*arguments):
+    """The decision and the number of the rule that is hit, or that none is."""
+    try:
+        hit = model.lookup(*arguments)
+    except Refused as refusal:
+        return refused(refusal)
+    return "none" if hit is None else "%d rule %d" % (hit[1], hit[0])
 
 
 def compared(results, call, *arguments):
@@ -280,7 +284,7 @@ def check_list_as(words):
 
 def lookup(words):
     width, list, headers = words.width(), words.list("list"), words.numbers("headers", LARGEST_WORD)
-    return lambda: ", ".join(decided(model.lookup, width, *list, header) for header in headers)
+    return lambda: ", ".join(looked_up(width, *list, header) for header in headers)
 
 
 def check_rule(words):

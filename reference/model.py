@@ -108,12 +108,18 @@ def rules_of(width, care, value, decision):
     return [(pattern(width, c, v), d) for c, v, d in words_and_decisions(care, value, decision)]
 
 
+def hit(rules, header):
+    """The number, from 1, of the first rule that matches the header (as text), and its decision; or None."""
+    for number, (text, decision) in enumerate(rules, 1):
+        if matches(text, header):
+            return number, decision
+    return None
+
+
 def answer(rules, header):
     """The decision of the first rule that matches the header (as text), or NO_MATCH."""
-    for text, decision in rules:
-        if matches(text, header):
-            return decision
-    return NO_MATCH
+    found = hit(rules, header)
+    return NO_MATCH if found is None else found[1]
 
 
 # Checks, each with its refusal number. ----------------------------------------------------------------------------------
@@ -161,10 +167,10 @@ def check_list(width, care, value, decision, list=1):
 
 
 def lookup(width, care, value, decision, header):
-    """A decision, or NO_MATCH."""
+    """The number of the rule that is hit and its decision, or None."""
     check_list(width, care, value, decision)
     check_header(width, header)
-    return answer(rules_of(width, care, value, decision), bits(width, header))
+    return hit(rules_of(width, care, value, decision), bits(width, header))
 
 
 def pair(width, a, b):

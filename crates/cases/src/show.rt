@@ -13,6 +13,7 @@ use compare::Compared;
 use compare::Ending;
 use pairs::Holds;
 use pairs::Measured;
+use rules::Hit;
 use rules::Looked;
 use rules::Refusal;
 use rules::Rule;
@@ -81,6 +82,8 @@ pub const TIMES: usize = 28;
 
 pub const HALF: usize = 29;
 
+pub const RULE: usize = 30;
+
 // The position at which answers are written.
 pub const ALOUD: usize = 4398046511104;
 
@@ -104,7 +107,7 @@ fn say(w: &[u8], at: usize, said: &[u8]) -> usize {
 
 pub fn phrase(w: &[u8], at: usize, k: usize) -> usize {
     let all: &[u8] =
-        b"fine|none|yes|no|refused | at | |, |[|]|/| finished| more from |kept | dropped | merged | into |list | swap |care | value | decision |first | last | old | new |id | rules | times |half ";
+        b"fine|none|yes|no|refused | at | |, |[|]|/| finished| more from |kept | dropped | merged | into |list | swap |care | value | decision |first | last | old | new |id | rules | times |half | rule ";
     say(w, at, phrase_of(all, k))
 }
 
@@ -144,9 +147,14 @@ fn answer(w: &[u8], at: usize, n: u16) -> usize {
     }
 }
 
+// The decision of a rule that is hit, and the rule's number.
+fn hit(w: &[u8], at: usize, x: Hit) -> usize {
+    named(w, number(w, at, x.decision as u64), RULE, x.number as u64)
+}
+
 pub fn looked(w: &[u8], at: usize, l: Looked) -> usize {
     match l {
-        Looked::Decision(d) => number(w, at, d as u64),
+        Looked::Hit(x) => hit(w, at, x),
         Looked::Miss => phrase(w, at, NONE),
         Looked::Refused(x) => refusal(w, at, x),
     }

@@ -1,4 +1,4 @@
--- What a call of the comparison owes its user, told by what the lookups of the two lists reply and by what its result slices hold
+-- What a call of the comparison owes its user, told by what the lookups of the two lists decide and by what its result slices hold
 -- (demand 3). All of it follows from the promise of the call.
 use Prim.Native.Nat.{ℕ, zero, suc, _+_, _^_, _≤_, _<_}
 use mathlib.Core.Path.{_≡_, refl, sym, ap, ap₂, _∙_, subst}
@@ -18,11 +18,11 @@ use Rattle.rules.specs.Rules.{answer}
 use Rattle.rules.specs.Slices.{rulesOf}
 use Rattle.rules.specs.Replies.{Reply, Gives, Refuses, passed, need, _then_, unlessRefused}
 use Rattle.rules.specs.Checks.{widthCheck, listCheck, headerCheck, roomCheck}
-use Rattle.rules.specs.Calls.{checkList, answered, lookedUp}
+use Rattle.rules.specs.Calls.{checkList, lookedUp, decided, answered}
 use Rattle.rules.proofs.ReplyLaws.{then-second, gives-refuses, first-gives}
 use Rattle.rules.proofs.ZipLaws.{ap₃}
 use Rattle.rules.proofs.CheckLaws.{list-given}
-use Rattle.rules.proofs.AnswerLaws.{list-renamed, looked-answered, replies-differ}
+use Rattle.rules.proofs.AnswerLaws.{list-renamed, looked-answered, decide-differently}
 use Rattle.compare.specs.declared.Ending.{Ending}
 use Rattle.compare.specs.declared.Compared.{Compared}
 use Rattle.compare.specs.Runs.{Run, run, differences, portion, ending}
@@ -146,9 +146,9 @@ module _ (w : ℕ) (oc ov od nc nv nd : List ℕ) (start : ℕ) (first last old 
       → IsRun (answer (rulesOf oc ov od)) (answer (rulesOf nc nv nd)) start (2 ^ w) x
   listed-longest x m = runs-longest w (rulesOf oc ov od) (rulesOf nc nv nd) start x (from-differences x m .1)
 
-  -- On every header of a listed run the old list's lookup replies its old answer, and the new list's its new answer.
+  -- On every header of a listed run the old list's lookup decides its old answer, and the new list's its new answer.
   pub listed-answers : (x : Run) → List·Memᴰ x (listedRuns (r .count) first′ last′ old′ new′) → (h : ℕ) → x .first ≤ h → h ≤ x .last
-      → (lookedUp w oc ov od h ≡ answered (x .old)) × (lookedUp w nc nv nd h ≡ answered (x .new))
+      → (decided (lookedUp w oc ov od h) ≡ answered (x .old)) × (decided (lookedUp w nc nv nd h) ≡ answered (x .new))
   listed-answers x m h a b =
       let f = from-differences x m in
       let p = lists-pass w oc ov od nc nv nd start (length first) (length last) (length old) (length new) (f .0) in
@@ -164,15 +164,15 @@ module _ (w : ℕ) (oc ov od nc nv nd : List ℕ) (start : ℕ) (first last old 
     pub room-finishes : length (differences w (rulesOf oc ov od) (rulesOf nc nv nd) start) ≤ length old → r .ending ≡ Ending.Finished
     room-finishes l = whole-list w oc ov od nc nv nd start first last old new first′ last′ old′ new′ r C fine l .0
 
-    -- The lookups of a header in its two lists reply differently exactly where the header is of the width and the two lists answer
+    -- The lookups of a header in its two lists decide differently exactly where the header is of the width and the two lists answer
     -- differently.
-    told : (h : ℕ) → (lookedUp w oc ov od h ≢ lookedUp w nc nv nd h) ↔ ((h < 2 ^ w) × (answer (rulesOf oc ov od) h ≢ answer (rulesOf nc nv nd) h))
+    told : (h : ℕ) → (decided (lookedUp w oc ov od h) ≢ decided (lookedUp w nc nv nd h)) ↔ ((h < 2 ^ w) × (answer (rulesOf oc ov od) h ≢ answer (rulesOf nc nv nd) h))
     told h =
         let p = lists-pass w oc ov od nc nv nd start (length first) (length last) (length old) (length new) fine in
-        replies-differ w oc ov od nc nv nd h (p .0) (p .1)
+        decide-differently w oc ov od nc nv nd h (p .0) (p .1)
 
-    -- A header that stands in a listed run is one on which the lookups reply differently.
-    listed-differs : (h : ℕ) → Stands h (listedRuns (r .count) first′ last′ old′ new′) → lookedUp w oc ov od h ≢ lookedUp w nc nv nd h
+    -- A header that stands in a listed run is one on which the lookups decide differently.
+    listed-differs : (h : ℕ) → Stands h (listedRuns (r .count) first′ last′ old′ new′) → decided (lookedUp w oc ov od h) ≢ decided (lookedUp w nc nv nd h)
     listed-differs h s =
         let n = nothing-else w (rulesOf oc ov od) (rulesOf nc nv nd) start h (s .0) (from-differences (s .0) (s .1) .1) (s .2) (s .3) in
         told h .1 (n .1, n .4)
@@ -185,35 +185,35 @@ module _ (w : ℕ) (oc ov od nc nv nd : List ℕ) (start : ℕ) (first last old 
         header-said : {ns ms : List ℕ} → Gives ns ≡ Gives (halvesOf ms) → wordsOf ns ≡ ms
         header-said {ns} {ms} p = let q : ns ≡ halvesOf ms = cc in ap wordsOf q ∙ words-halves ms
 
-  -- A call that finished lists, of the headers at or after the start, those on which the two lookups reply differently, and no others.
+  -- A call that finished lists, of the headers at or after the start, those on which the two lookups decide differently, and no others.
   pub finished-lists-exactly : r .ending ≡ Ending.Finished → (h : ℕ) → start ≤ h
-      → Stands h (listedRuns (r .count) first′ last′ old′ new′) ↔ (lookedUp w oc ov od h ≢ lookedUp w nc nv nd h)
+      → Stands h (listedRuns (r .count) first′ last′ old′ new′) ↔ (decided (lookedUp w oc ov od h) ≢ decided (lookedUp w nc nv nd h))
   finished-lists-exactly e h l = (listed-differs fine h, back)
     where
       fine : compareCheck w oc ov od nc nv nd start (length first) (length last) (length old) (length new) ≡ passed
       fine = finished-passes e
 
-      back : lookedUp w oc ov od h ≢ lookedUp w nc nv nd h → Stands h (listedRuns (r .count) first′ last′ old′ new′)
+      back : decided (lookedUp w oc ov od h) ≢ decided (lookedUp w nc nv nd h) → Stands h (listedRuns (r .count) first′ last′ old′ new′)
       back n =
           let d = told fine h .0 n in
           rw (listed-portion fine) (call-finishes w oc ov od nc nv nd start first last old new first′ last′ old′ new′ r C fine .0 e h l (d .0) (d .1))
 
   module _ (k : Wire) (e : r .ending ≡ Ending.More k) where
     -- A call that says more lists, of the headers from the start on and before the one that it names, those on which the two lookups
-    -- reply differently, and no others.
+    -- decide differently, and no others.
     pub more-lists-exactly : (h : ℕ) → start ≤ h → h < num (k .0)
-        → Stands h (listedRuns (r .count) first′ last′ old′ new′) ↔ (lookedUp w oc ov od h ≢ lookedUp w nc nv nd h)
+        → Stands h (listedRuns (r .count) first′ last′ old′ new′) ↔ (decided (lookedUp w oc ov od h) ≢ decided (lookedUp w nc nv nd h))
     more-lists-exactly h l m = (listed-differs fine h, back)
       where
         fine : compareCheck w oc ov od nc nv nd start (length first) (length last) (length old) (length new) ≡ passed
         fine = more-passes k e
 
-        back : lookedUp w oc ov od h ≢ lookedUp w nc nv nd h → Stands h (listedRuns (r .count) first′ last′ old′ new′)
+        back : decided (lookedUp w oc ov od h) ≢ decided (lookedUp w nc nv nd h) → Stands h (listedRuns (r .count) first′ last′ old′ new′)
         back n =
             rw (listed-portion fine) (more-skips-nothing w (rulesOf oc ov od) (rulesOf nc nv nd) start (length old) (num (k .0)) (named fine k e) h l m (told fine h .0 n .1))
 
-    -- The header that it names is itself one on which they reply differently.
-    pub named-differs : lookedUp w oc ov od (num (k .0)) ≢ lookedUp w nc nv nd (num (k .0))
+    -- The header that it names is itself one on which they decide differently.
+    pub named-differs : decided (lookedUp w oc ov od (num (k .0))) ≢ decided (lookedUp w nc nv nd (num (k .0)))
     named-differs =
         let fine = more-passes k e in
         let n = more-names-a-difference w (rulesOf oc ov od) (rulesOf nc nv nd) start (length old) (num (k .0)) (named fine k e) in

@@ -15,10 +15,11 @@ use Rattle.rules.specs.Rule.{Rule}
 use Rattle.rules.specs.Rules.{answer}
 use Rattle.rules.specs.Slices.{caresOf, valuesOf, decisionsOf}
 use Rattle.rules.specs.Replies.{Reply, Gives, passed, need, _then_, unlessRefused}
-use Rattle.rules.specs.Checks.{headerCheck, roomCheck}
-use Rattle.rules.specs.Calls.{checkList, answered, lookedUp}
-use Rattle.rules.proofs.ReplyLaws.{then-next, then-second, one-value}
+use Rattle.rules.specs.Checks.{roomCheck}
+use Rattle.rules.specs.Calls.{checkList, lookedUp, decided}
+use Rattle.rules.proofs.ReplyLaws.{then-second, one-value}
 use Rattle.rules.proofs.SliceLaws.{rules-columns}
+use Rattle.rules.proofs.AnswerLaws.{decide-alike}
 use Rattle.weaving.specs.declared.Tally.{Tally}
 use Rattle.weaving.specs.declared.Woven.{Woven}
 use Rattle.weaving.specs.Runs.{join}
@@ -81,12 +82,6 @@ columns-pass : (b : List ℕ) (id : ℕ) → imageCheck b ≡ passed
 columns-pass b id f =
     let rs : List Rule = listWith b id in
     list-passes b id 1 (caresOf rs) (valuesOf rs) (decisionsOf rs) f (columns-lent rs) (rules-columns rs)
-
--- what looking a header up in such a list comes to
-looked : (w : ℕ) (rs : List Rule) (h : ℕ) → checkList w 1 (caresOf rs) (valuesOf rs) (decisionsOf rs) ≡ passed
-    → lookedUp w (caresOf rs) (valuesOf rs) (decisionsOf rs) h ≡ (headerCheck w h then answered (answer rs h))
-unfolding lookedUp
-looked w rs h p = then-next _ _ p ∙ ap (λ (xs : List Rule). headerCheck w h then answered (answer xs h)) (rules-columns rs)
 
 -- ---- `weave_image` answered with the number n, and left out′ in the bytes that held out
 
@@ -162,19 +157,19 @@ module _ (bs out out′ : List ℕ) (n : ℕ) (W : ImageWoven bs out (Outcome.Nu
     woven-image-list id =
         list-named (take n out′) id ∙ ap (rulesNamed id) woven-image-lists ∙ woven-named (widthIn bs) id (listsOf bs) ∙ ap (weave (widthIn bs)) (sym (list-named bs id))
 
-    -- Looking a header up in it replies as looking it up in the image's list with that id: with the same decision, with no match where
-    -- there is none, and with the same refusal where the header is no header of the width.
+    -- Looking a header up in it decides as looking it up in the image's list with that id: the same decision, no match where there is
+    -- none, and the same refusal where the header is no header of the width.
     pub woven-image-lookup : (id h : ℕ)
-        → lookedUp (widthIn bs) (caresOf (listWith (take n out′) id)) (valuesOf (listWith (take n out′) id)) (decisionsOf (listWith (take n out′) id)) h
-        ≡ lookedUp (widthIn bs) (caresOf (listWith bs id)) (valuesOf (listWith bs id)) (decisionsOf (listWith bs id)) h
+        → decided (lookedUp (widthIn bs) (caresOf (listWith (take n out′) id)) (valuesOf (listWith (take n out′) id)) (decisionsOf (listWith (take n out′) id)) h)
+        ≡ decided (lookedUp (widthIn bs) (caresOf (listWith bs id)) (valuesOf (listWith bs id)) (decisionsOf (listWith bs id)) h)
     woven-image-lookup id h =
         let xs : List Rule = listWith (take n out′) id in
+        let ys : List Rule = listWith bs id in
         let fine : checkList (widthIn bs) 1 (caresOf xs) (valuesOf xs) (decisionsOf xs) ≡ passed =
         subst (λ (w : ℕ). checkList w 1 (caresOf xs) (valuesOf xs) (decisionsOf xs) ≡ passed) (woven-image-head .1) (columns-pass (take n out′) id woven-image-passes) in
-        looked (widthIn bs) xs h fine
-        ∙ ap (λ (a : ℕ). headerCheck (widthIn bs) h then answered a)
-        (ap (λ (rs : List Rule). answer rs h) (woven-image-list id) ∙ weave-keeps-answers (widthIn bs) (listWith bs id) (list-facts bs id woven-source-passes .valid) h)
-        ∙ sym (looked (widthIn bs) (listWith bs id) h (columns-pass bs id woven-source-passes))
+        decide-alike (widthIn bs) (caresOf xs) (valuesOf xs) (decisionsOf xs) (caresOf ys) (valuesOf ys) (decisionsOf ys) h fine (columns-pass bs id woven-source-passes)
+        (ap (λ (rs : List Rule). answer rs h) (rules-columns xs ∙ woven-image-list id)
+        ∙ weave-keeps-answers (widthIn bs) ys (list-facts bs id woven-source-passes .valid) h ∙ ap (λ (rs : List Rule). answer rs h) (sym (rules-columns ys)))
 
 -- ---- `tally` counted
 

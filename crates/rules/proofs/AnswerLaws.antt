@@ -1,4 +1,5 @@
--- Laws of a lookup's reply: it says what the list answers, and two lookups reply alike exactly where the lists answer alike.
+-- Laws of a lookup's reply: it says which rule the header hits and what the list answers, and two lookups decide alike exactly where the
+-- lists answer alike.
 use mathlib.Core.Path.{_≡_, refl, sym, ap, _∙_}
 use mathlib.Core.Logic.{_≢_, _↔_}
 use mathlib.Core.List.{List, [], _∷_}
@@ -9,12 +10,14 @@ use native.Mathlib.Decide.{decLt}
 use lib.Dec.{eqb}
 use borrow.Author.Tests.{eqb-true, lt-ltb, le-ltb}
 use Rattle.rules.specs.Rules.{noMatch, answer}
-use Rattle.rules.specs.Slices.{rulesOf}
+use Rattle.rules.specs.Slices.{rulesOf, ruleAt}
+use Rattle.rules.specs.Found.{Hits, Misses}
 use Rattle.rules.specs.Replies.{Gives, Refuses, passed}
 use Rattle.rules.specs.Checks.{headerCheck}
-use Rattle.rules.specs.Calls.{checkList, givesIf, answered, lookedUp}
+use Rattle.rules.specs.Calls.{checkList, givesIf, firstHit, lookedUp, decided, answered}
 use Rattle.rules.proofs.ReplyLaws.{then-next, then-second, one-value}
-use Rattle.rules.proofs.CheckLaws.{list-sound, sound-list, header-yes, header-no}
+use Rattle.rules.proofs.CheckLaws.{list-sound, sound-list, list-first, header-yes, header-no}
+use Rattle.rules.proofs.HitLaws.{reply-hit, hit-reply, reply-miss, miss-reply, decided-answered}
 
 -- ---- an answer as a reply
 
@@ -41,44 +44,72 @@ list-renamed w l m cs vs ds e = sound-list w m cs vs ds (list-sound w l cs vs ds
 
 module _ (w : ℕ) (cs vs ds : List ℕ) (h : ℕ) where
   module _ (fine : checkList w 1 cs vs ds ≡ passed) where
-    -- A header of the width, looked up in a list that passes: the reply is what the list answers.
-    pub looked-answered : h < 2 ^ w → lookedUp w cs vs ds h ≡ answered (answer (rulesOf cs vs ds) h)
-    unfolding lookedUp
-    looked-answered l = then-next _ _ fine ∙ then-next _ _ (header-yes w h (lt-ltb _ _ l))
+    module _ (l : h < 2 ^ w) where
+      -- A header of the width, looked up in a list that passes: the reply is what is found.
+      pub looked-found : lookedUp w cs vs ds h ≡ firstHit (rulesOf cs vs ds) h
+      unfolding lookedUp
+      looked-found = then-next _ _ fine ∙ then-next _ _ (header-yes w h (lt-ltb _ _ l))
+
+      -- It gives a number and a decision exactly where the rule with that number, counted from 1, is hit and has that decision.
+      pub hit-exactly : (i d : ℕ) → (lookedUp w cs vs ds h ≡ Gives ((i + 1) ∷ d ∷ [])) ↔ (Hits (rulesOf cs vs ds) h i × (ruleAt (rulesOf cs vs ds) i .decision ≡ d))
+      hit-exactly i d =
+          ((λ e. reply-hit (rulesOf cs vs ds) h i d (sym looked-found ∙ e)), (λ x. looked-found ∙ hit-reply (rulesOf cs vs ds) h i d x))
+
+      -- It gives no match exactly where no rule is hit.
+      pub miss-exactly : (lookedUp w cs vs ds h ≡ Gives []) ↔ Misses (rulesOf cs vs ds) h
+      miss-exactly = ((λ e. reply-miss (rulesOf cs vs ds) h (sym looked-found ∙ e)), (λ m. looked-found ∙ miss-reply (rulesOf cs vs ds) h m))
+
+      -- What it decides is what the list answers.
+      pub looked-answered : decided (lookedUp w cs vs ds h) ≡ answered (answer (rulesOf cs vs ds) h)
+      looked-answered = ap decided looked-found ∙ decided-answered w (rulesOf cs vs ds) h (list-sound w 1 cs vs ds fine .valid)
 
     -- Every other header is refused there.
     pub looked-past : 2 ^ w ≤ h → lookedUp w cs vs ds h ≡ Refuses 6 0 0
     unfolding lookedUp
     looked-past l = then-next _ _ fine ∙ header-no w h _ (le-ltb _ _ l)
 
-  -- A lookup that is not refused replies what the list answers.
-  pub looked-given : {ns : List ℕ} → lookedUp w cs vs ds h ≡ Gives ns → lookedUp w cs vs ds h ≡ answered (answer (rulesOf cs vs ds) h)
+  -- A lookup that is not refused decides what the list answers.
+  pub looked-given : {ns : List ℕ} → lookedUp w cs vs ds h ≡ Gives ns → decided (lookedUp w cs vs ds h) ≡ answered (answer (rulesOf cs vs ds) h)
   unfolding lookedUp
-  looked-given {ns} e = e ∙ sym (then-second (headerCheck w h) _ ns (then-second (checkList w 1 cs vs ds) _ ns e))
+  looked-given {ns} e =
+      let f = then-second (headerCheck w h) _ ns (then-second (checkList w 1 cs vs ds) _ ns e) in
+      ap decided (e ∙ sym f) ∙ decided-answered w (rulesOf cs vs ds) h (list-sound w 1 cs vs ds (list-first w 1 cs vs ds _ e) .valid)
 
 -- ---- two lists
 
 module _ (w : ℕ) (cs vs ds cs′ vs′ ds′ : List ℕ) (h : ℕ) where
-  -- Two lookups of one header that are not refused reply alike exactly where the two lists answer alike.
-  pub replies-alike : {ns ms : List ℕ} → lookedUp w cs vs ds h ≡ Gives ns → lookedUp w cs′ vs′ ds′ h ≡ Gives ms
-      → (lookedUp w cs vs ds h ≡ lookedUp w cs′ vs′ ds′ h) ↔ (answer (rulesOf cs vs ds) h ≡ answer (rulesOf cs′ vs′ ds′) h)
-  replies-alike p q =
+  -- Two lookups of one header that are not refused decide alike exactly where the two lists answer alike.
+  pub given-alike : {ns ms : List ℕ} → lookedUp w cs vs ds h ≡ Gives ns → lookedUp w cs′ vs′ ds′ h ≡ Gives ms
+      → (decided (lookedUp w cs vs ds h) ≡ decided (lookedUp w cs′ vs′ ds′ h)) ↔ (answer (rulesOf cs vs ds) h ≡ answer (rulesOf cs′ vs′ ds′) h)
+  given-alike p q =
       let s = looked-given w cs vs ds h p in
       let t = looked-given w cs′ vs′ ds′ h q in
       ((λ e. answered-once _ _ (sym s ∙ e ∙ t)), (λ e. s ∙ ap answered e ∙ sym t))
 
-  -- In two lists that pass, the lookups of a header reply differently exactly where it is of the width and the two lists answer
-  -- differently.
-  pub replies-differ : checkList w 1 cs vs ds ≡ passed → checkList w 1 cs′ vs′ ds′ ≡ passed
-      → (lookedUp w cs vs ds h ≢ lookedUp w cs′ vs′ ds′ h) ↔ ((h < 2 ^ w) × (answer (rulesOf cs vs ds) h ≢ answer (rulesOf cs′ vs′ ds′) h))
-  replies-differ p q = (there (decLt h (2 ^ w)), back)
-    where
-      there : Dec (h < 2 ^ w) → lookedUp w cs vs ds h ≢ lookedUp w cs′ vs′ ds′ h
-          → (h < 2 ^ w) × (answer (rulesOf cs vs ds) h ≢ answer (rulesOf cs′ vs′ ds′) h)
-      there (yes l) n = (l, λ e. n (looked-answered w cs vs ds h p l ∙ ap answered e ∙ sym (looked-answered w cs′ vs′ ds′ h q l)))
-      there (no m) n =
-          let l : 2 ^ w ≤ h = omega arith in
-          absurd (n (looked-past w cs vs ds h p l ∙ sym (looked-past w cs′ vs′ ds′ h q l)))
+  module _ (p : checkList w 1 cs vs ds ≡ passed) (q : checkList w 1 cs′ vs′ ds′ ≡ passed) where
+    -- Past the width both lookups are refused alike.
+    past-alike : 2 ^ w ≤ h → decided (lookedUp w cs vs ds h) ≡ decided (lookedUp w cs′ vs′ ds′ h)
+    past-alike l = ap decided (looked-past w cs vs ds h p l ∙ sym (looked-past w cs′ vs′ ds′ h q l))
 
-      back : (h < 2 ^ w) × (answer (rulesOf cs vs ds) h ≢ answer (rulesOf cs′ vs′ ds′) h) → lookedUp w cs vs ds h ≢ lookedUp w cs′ vs′ ds′ h
-      back d e = d .1 (answered-once _ _ (sym (looked-answered w cs vs ds h p (d .0)) ∙ e ∙ looked-answered w cs′ vs′ ds′ h q (d .0)))
+    -- Where two lists that pass answer a header alike, its lookups decide alike, whichever rules it hits.
+    pub decide-alike : answer (rulesOf cs vs ds) h ≡ answer (rulesOf cs′ vs′ ds′) h → decided (lookedUp w cs vs ds h) ≡ decided (lookedUp w cs′ vs′ ds′ h)
+    decide-alike e = go (decLt h (2 ^ w))
+      where
+        go : Dec (h < 2 ^ w) → decided (lookedUp w cs vs ds h) ≡ decided (lookedUp w cs′ vs′ ds′ h)
+        go (yes l) = looked-answered w cs vs ds h p l ∙ ap answered e ∙ sym (looked-answered w cs′ vs′ ds′ h q l)
+        go (no m) = past-alike (omega arith)
+
+    -- In two lists that pass, the lookups of a header decide differently exactly where it is of the width and the two lists answer
+    -- differently.
+    pub decide-differently : (decided (lookedUp w cs vs ds h) ≢ decided (lookedUp w cs′ vs′ ds′ h))
+        ↔ ((h < 2 ^ w) × (answer (rulesOf cs vs ds) h ≢ answer (rulesOf cs′ vs′ ds′) h))
+    decide-differently = (there (decLt h (2 ^ w)), back)
+      where
+        there : Dec (h < 2 ^ w) → decided (lookedUp w cs vs ds h) ≢ decided (lookedUp w cs′ vs′ ds′ h)
+            → (h < 2 ^ w) × (answer (rulesOf cs vs ds) h ≢ answer (rulesOf cs′ vs′ ds′) h)
+        there (yes l) n = (l, λ e. n (decide-alike e))
+        there (no m) n = absurd (n (past-alike (omega arith)))
+
+        back : (h < 2 ^ w) × (answer (rulesOf cs vs ds) h ≢ answer (rulesOf cs′ vs′ ds′) h)
+            → decided (lookedUp w cs vs ds h) ≢ decided (lookedUp w cs′ vs′ ds′ h)
+        back d e = d .1 (answered-once _ _ (sym (looked-answered w cs vs ds h p (d .0)) ∙ e ∙ looked-answered w cs′ vs′ ds′ h q (d .0)))

@@ -38,9 +38,15 @@ pub enum Verdict {
     Refused(Refusal),
 }
 
-// What looking a header up finds: the decision of the first matching rule, or that none matches.
+// The rule that a header hits: its number in its list, counted from 1, and its decision.
+pub struct Hit {
+    pub number: usize,
+    pub decision: u16,
+}
+
+// What looking a header up finds: the first matching rule, or that none matches.
 pub enum Looked {
-    Decision(u16),
+    Hit(Hit),
     Miss,
     Refused(Refusal),
 }

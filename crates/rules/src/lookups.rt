@@ -7,6 +7,7 @@ ghost use Rattle.rules.specs.Slices.{rulesOf, Lent};
 ghost use Rattle.rules.specs.Replies.{lookedReply};
 ghost use Rattle.rules.specs.Calls.{lookedUp};
 ghost use Rattle.rules.specs.Found.{FirstAt};
+use crate::Hit;
 use crate::Looked;
 use crate::Refusal;
 use crate::Rule;
@@ -45,7 +46,7 @@ pub(crate) fn first_match(care: &[u64], value: &[u64], decision: &[u16], header:
 }
 
 // Looks a header up that is given as its number, for the calls on headers of either order: the checks of the list, then 6;
-// else the decision of the first matching rule.
+// else the number of the first matching rule, from 1, and its decision.
 pub fn lookup_number(
     width: u32,
     care: &[u64],
@@ -64,8 +65,12 @@ pub fn lookup_number(
         let FirstMatch::At(i) = first_match(care, value, decision, header) else {
             return Looked::Miss;
         };
+        let number = i + 1;
         let rule = rule_at(care, value, decision, i);
-        return Looked::Decision(rule.decision);
+        return Looked::Hit(Hit {
+            number,
+            decision: rule.decision,
+        });
     }
     Looked::Refused(Refusal {
         number: 6,

@@ -1,4 +1,5 @@
--- The starred examples of document 01 ("Tried by hand"): one table, and one proof of all its rows by computing both sides.
+-- The starred examples of document 01 ("Tried by hand"), and lookups in lists of which several rules match: one table, and one proof
+-- of all its rows by computing both sides.
 use Prim.Native.Nat.{ℕ, _*_}
 use mathlib.Core.Path.{_≡_, refl, _∙_}
 use mathlib.Core.List.{List, [], _∷_}
@@ -6,11 +7,11 @@ use lib.ListN.{length}
 use Rattle.words.specs.Halves.{num, halves}
 use Rattle.words.specs.Slices.{wordsOf, halvesOf}
 use Rattle.rules.specs.Rule.{Rule}
-use Rattle.rules.specs.Rules.{rule, matches, first, noMatch, covers, crosses, stars, mergeable, merged}
+use Rattle.rules.specs.Rules.{rule, matches, first, position, noMatch, covers, crosses, stars, mergeable, merged}
 use Rattle.rules.specs.Slices.{zipped, rulesOf, caresOf, valuesOf, decisionsOf}
 use Rattle.rules.specs.Replies.{Reply, Gives, Refuses, passed, _then_}
 use Rattle.rules.specs.Checks.{widthCheck, lengthsCheck, sizeCheck, patternFits, ruleCheck, rulesCheck, listCheck, headerCheck, roomCheck}
-use Rattle.rules.specs.Calls.{checkList, lookedUp}
+use Rattle.rules.specs.Calls.{checkList, lookedUp, decided}
 use Rattle.rules.proofs.ReplyLaws.{then-next}
 use Rattle.prefixes.specs.Prefix.{checkPrefix, crossCheck, crossesAmong, crossesWith}
 use Rattle.weaving.specs.Runs.{cut, runSizes}
@@ -30,6 +31,10 @@ pub record Cuts (w : ℕ) (rs : List Rule) (sizes : List ℕ) : Type 0 where
 pub record Weaves (w : ℕ) (rs ms : List Rule) (keeps drops joins : ℕ) : Type 0 where
   pub reply : weaveReply w (caresOf rs) (valuesOf rs) (decisionsOf rs) (caresOf rs) (valuesOf rs) (decisionsOf rs) ≡ Gives (keeps ∷ drops ∷ joins ∷ [])
   pub list : weave w (rulesOf (caresOf rs) (valuesOf rs) (decisionsOf rs)) ≡ ms
+
+-- Looking a header up in these rules.
+abbrev looks : (w : ℕ) → List Rule → (h : ℕ) → Reply
+looks w rs h = lookedUp w (caresOf rs) (valuesOf rs) (decisionsOf rs) h
 
 -- The checks of a comparison of these rules with result slices of so many places.
 abbrev compareChecks : (w : ℕ) → (old new : List Rule) → (start room : ℕ) → Reply
@@ -56,6 +61,17 @@ older = rule 4 0 1 ∷ []
 abbrev newer : List Rule
 newer = rule 6 0 1 ∷ rule 5 5 1 ∷ []
 
+-- A list of which several rules match one header, two of them with one decision: `00*`→7, `0**`→7, `***`→8.
+abbrev nested : List Rule
+nested = rule 6 0 7 ∷ rule 4 0 7 ∷ rule 0 0 8 ∷ []
+
+-- `1*`→1, `00`→2, and the same woven: `00`→2, `1*`→1.
+abbrev unsorted : List Rule
+unsorted = rule 2 2 1 ∷ rule 3 0 2 ∷ []
+
+abbrev sorted : List Rule
+sorted = rule 3 0 2 ∷ rule 2 2 1 ∷ []
+
 pub record Table : Type 0 where
   -- `000*`→1, `001*`→1, `0000`→2, `0***`→2, `1***`→1 becomes `00**`→1, `0***`→2, `1***`→1: 3, 1 and 1
   pub five-rules : Weaves 4 (rule 14 0 1 ∷ rule 14 2 1 ∷ rule 15 0 2 ∷ rule 8 0 2 ∷ rule 8 8 1 ∷ []) (rule 12 0 1 ∷ rule 8 0 2 ∷ rule 8 8 1 ∷ []) 3 1 1
@@ -71,7 +87,15 @@ pub record Table : Type 0 where
   -- `00`, `01`, `10`, `11`, each →7, becomes `**` by three merges
   pub all-pairs : Weaves 2 (rule 3 0 7 ∷ rule 3 1 7 ∷ rule 3 2 7 ∷ rule 3 3 7 ∷ []) (rule 0 0 7 ∷ []) 1 0 3
   -- `1*`→1, `00`→2 becomes `00`→2, `1*`→1
-  pub sorted-rules : Weaves 2 (rule 2 2 1 ∷ rule 3 0 2 ∷ []) (rule 3 0 2 ∷ rule 2 2 1 ∷ []) 2 0 0
+  pub sorted-rules : Weaves 2 unsorted sorted 2 0 0
+  -- header 0 hits rule 1 of three that match, header 2 rule 2 of two, with the same decision, and header 4 rule 3
+  pub hit-first : looks 3 nested 0 ≡ Gives (1 ∷ 7 ∷ [])
+  pub hit-second : looks 3 nested 2 ≡ Gives (2 ∷ 7 ∷ [])
+  pub hit-third : looks 3 nested 4 ≡ Gives (3 ∷ 8 ∷ [])
+  -- header 2 hits rule 1 of the list and rule 2 of the woven one, and both decide 1
+  pub hit-unsorted : looks 2 unsorted 2 ≡ Gives (1 ∷ 1 ∷ [])
+  pub hit-sorted : looks 2 sorted 2 ≡ Gives (2 ∷ 1 ∷ [])
+  pub sorted-alike : decided (looks 2 sorted 2) ≡ decided (looks 2 unsorted 2)
   -- the empty list, at any width that passes: nothing is kept, and no header that passes has a match
   pub empty-list : (w : ℕ) → widthCheck w ≡ passed → Weaves w [] [] 0 0 0
   pub empty-runs : (w : ℕ) → widthCheck w ≡ passed → Cuts w [] []
@@ -86,7 +110,7 @@ pub record Table : Type 0 where
 
 -- Every row, by computing.
 pub table : Table
-unfolding runsReply weaveReply weave dropped merges cut crosses covers stars mergeable merged checkPrefix crossCheck crossesAmong crossesWith checkList lookedUp widthCheck listCheck lengthsCheck sizeCheck rulesCheck ruleCheck patternFits headerCheck roomCheck zipped wordsOf halvesOf num halves compareCheck portionCheck resultsCheck runsTo runsOf first matches
+unfolding runsReply weaveReply weave dropped merges cut crosses covers stars mergeable merged checkPrefix crossCheck crossesAmong crossesWith checkList lookedUp widthCheck listCheck lengthsCheck sizeCheck rulesCheck ruleCheck patternFits headerCheck roomCheck zipped wordsOf halvesOf num halves compareCheck portionCheck resultsCheck runsTo runsOf first position matches
 table = record {
   five-rules = record { reply = refl; list = refl };
   crossing-runs = record { reply = refl; list = refl };
@@ -97,6 +121,12 @@ table = record {
   first-pair = record { reply = refl; list = refl };
   all-pairs = record { reply = refl; list = refl };
   sorted-rules = record { reply = refl; list = refl };
+  hit-first = refl;
+  hit-second = refl;
+  hit-third = refl;
+  hit-unsorted = refl;
+  hit-sorted = refl;
+  sorted-alike = refl;
   empty-list = λ w e. record { reply = then-next _ _ (then-next _ _ e); list = refl };
   empty-runs = λ w e. record { reply = then-next _ _ (then-next _ _ e); list = refl };
   empty-lookup = λ w h e k. then-next _ _ (then-next _ _ e) ∙ then-next _ _ k;

@@ -5,6 +5,7 @@ use crate::lists;
 use crate::slices;
 use command_line::Command;
 use image::Outcome;
+use rules::Hit;
 use rules::Looked;
 use rules::Refusal;
 use rules::Rule;
@@ -65,10 +66,16 @@ fn show_rule(width: u32, rule: Rule) {
 
 fn answer(l: Looked) {
     match l {
-        Looked::Decision(d) => lines::last(d as usize),
+        Looked::Hit(x) => show_hit(x),
         Looked::Miss => lines::say(b"none\n"),
         Looked::Refused(x) => lines::refusal(x),
     }
+}
+
+// The decision of the rule that is hit, and its number in the list.
+fn show_hit(hit: Hit) {
+    lines::number(hit.decision as usize);
+    lines::named(b" rule ", hit.number);
 }
 
 fn runs(width: u32, care: &[u64], value: &[u64], decision: &[u16]) {

@@ -13,12 +13,13 @@ use Rattle.rules.specs.Rules.{answer}
 use Rattle.rules.specs.declared.Refusal.{Refusal}
 use Rattle.rules.specs.Slices.{rulesOf, careOf, valueOf, decisionOf, caresOf, valuesOf, decisionsOf, Lent}
 use Rattle.rules.specs.Replies.{Reply, Gives, passed, _then_, unlessRefused}
-use Rattle.rules.specs.Checks.{lengthsCheck, headerCheck, roomCheck, Sound}
-use Rattle.rules.specs.Calls.{checkList, answered, lookedUp}
-use Rattle.rules.proofs.ReplyLaws.{then-next, then-second}
+use Rattle.rules.specs.Checks.{lengthsCheck, roomCheck, Sound}
+use Rattle.rules.specs.Calls.{checkList, lookedUp, decided}
+use Rattle.rules.proofs.ReplyLaws.{then-second}
 use Rattle.rules.proofs.ZipLaws.{ap₃}
 use Rattle.rules.proofs.SliceLaws.{rules-length, rules-columns}
 use Rattle.rules.proofs.CheckLaws.{list-sound, list-first}
+use Rattle.rules.proofs.AnswerLaws.{decide-alike}
 use Rattle.weaving.specs.declared.Counted.{Counted}
 use Rattle.weaving.specs.declared.Tally.{Tally}
 use Rattle.weaving.specs.declared.Woven.{Woven}
@@ -126,14 +127,12 @@ module _ (w : ℕ) (cs vs ds ocs ovs ods ocs′ ovs′ ods′ : List ℕ) (t : T
   pub woven-passes : (l : ℕ) → checkList w l (keptWords t ocs′) (keptWords t ovs′) (keptDecisions t ods′) ≡ passed
   woven-passes l = woven-list-passes w l cs vs ds _ _ _ source-sound kept-together woven-places
 
-  -- Looking a header up in the woven list replies as in the list lent: with the same decision, with no match where there is
-  -- none, and with the same refusal where the header is no header of the width.
-  pub woven-lookup : (h : ℕ) → lookedUp w (keptWords t ocs′) (keptWords t ovs′) (keptDecisions t ods′) h ≡ lookedUp w cs vs ds h
-  unfolding lookedUp
+  -- Looking a header up in the woven list decides as in the list lent: the same decision, no match where there is none, and the
+  -- same refusal where the header is no header of the width. The rule that is hit has its number in the list that is looked up in.
+  pub woven-lookup : (h : ℕ) → decided (lookedUp w (keptWords t ocs′) (keptWords t ovs′) (keptDecisions t ods′) h) ≡ decided (lookedUp w cs vs ds h)
   woven-lookup h =
-      then-next _ _ (woven-passes 1)
-      ∙ ap (λ (a : ℕ). headerCheck w h then answered a) (ap (λ (rs : List Rule). answer rs h) woven-places ∙ weave-keeps-answers w (rulesOf cs vs ds) (source-sound .valid) h)
-      ∙ sym (then-next _ _ source-passes)
+      decide-alike w (keptWords t ocs′) (keptWords t ovs′) (keptDecisions t ods′) cs vs ds h (woven-passes 1) source-passes
+      (ap (λ (rs : List Rule). answer rs h) woven-places ∙ weave-keeps-answers w (rulesOf cs vs ds) (source-sound .valid) h)
 
 -- ---- refused calls
 

@@ -1,10 +1,11 @@
-use Rattle.rules.proofs.FoundLaws.{looked-sound, looked-six, looked-hit, looked-miss}
+use Rattle.rules.proofs.FoundLaws.{looked-sound, found-few, looked-six, looked-hit, looked-miss}
 use Rattle.words.specs.Halves.{num}
 use Rattle.rules.proofs.SliceLaws.{told}
 use Rattle.rules.proofs.ReplyLaws.{refused-stop}
 use Rattle.rules.specs.Calls.{lookedUp}
 use mathlib.Core.Path.{sym}
 use borrow.Author.Needs.{needs}
+use native.Mathlib.Omega.{arith}
 use Rattle.rules.proofs.lookups.lookup_number.Statement.{statement}
 use Rattle.rules.proofs.lookups.lookup_number.Tie as tie
 use Rattle.rules.proofs.lookups.lookup_number.Reads as reads
@@ -42,11 +43,14 @@ enum-told-2 c = search needs
 returns-2 : tie.Need-returns-2
 returns-2 c = looked-miss _ _ _ _ _ _ (c .before .before .before .before .before .before .before .check-list .ensures) (c .before .before .before .before .before .enum-told .given .1) _ (c .before .before .before .before .below .ensures) (c .before .before .before .if1 .taken) _ (c .before .before .first-match .ensures) (c .enum-told2 .given .1)
 
+add-number : tie.Need-add-number
+add-number c = omega (arith, found-few _ _ _ _ _ _ (c .before .before .before .before .before .before .before .before .check-list .ensures) (c .before .before .before .before .before .before .enum-told .given .1) _ _ (c .before .before .before .first-match .ensures) (c .before .i .given .1))
+
 rule-at-requires : tie.Need-rule-at-requires
 rule-at-requires c κs = search needs
 
 returns-3 : tie.Need-returns-3
-returns-3 c = looked-hit _ _ _ _ _ _ (c .before .before .before .before .before .before .before .before .before .check-list .ensures) (c .before .before .before .before .before .before .before .enum-told .given .1) _ (c .before .before .before .before .before .before .below .ensures) (c .before .before .before .before .before .if1 .taken) _ _ _ (c .before .before .before .before .first-match .ensures) (c .before .before .i .given .1) (told (c .rule-at .ensures))
+returns-3 c = looked-hit _ _ _ _ _ _ (c .before .before .before .before .before .before .before .before .before .check-list .ensures) (c .before .before .before .before .before .before .before .enum-told .given .1) _ (c .before .before .before .before .before .before .below .ensures) (c .before .before .before .before .before .if1 .taken) _ (c .before .before .before .before .first-match .ensures) _ _ (c .before .before .i .given .1) (told (c .rule-at .ensures))
 
 returns-4 : tie.Need-returns-4
 returns-4 c = sym (looked-six _ _ _ _ _ _ (c .before .before .before .before .check-list .ensures) (c .before .before .enum-told .given .1) _ (c .before .below .ensures) (c .if1 .left))
@@ -64,6 +68,7 @@ lookup-number-spec =
     enum-known-i
     enum-told-2
     returns-2
+    add-number
     rule-at-requires
     returns-3
     returns-4)
