@@ -17,7 +17,7 @@ use Rattle.rules.specs.Checks.{headerCheck}
 use Rattle.rules.specs.Calls.{checkList, givesIf, firstHit, lookedUp, decided, answered}
 use Rattle.rules.proofs.ReplyLaws.{then-next, then-second, one-value}
 use Rattle.rules.proofs.CheckLaws.{list-sound, sound-list, list-first, header-yes, header-no}
-use Rattle.rules.proofs.HitLaws.{reply-hit, hit-reply, reply-miss, miss-reply, decided-answered}
+use Rattle.rules.proofs.HitLaws.{reply-told, reply-hit, hit-reply, reply-miss, miss-reply, decided-answered}
 
 -- ---- an answer as a reply
 
@@ -68,12 +68,23 @@ module _ (w : ℕ) (cs vs ds : List ℕ) (h : ℕ) where
     unfolding lookedUp
     looked-past l = then-next _ _ fine ∙ header-no w h _ (le-ltb _ _ l)
 
-  -- A lookup that is not refused decides what the list answers.
-  pub looked-given : {ns : List ℕ} → lookedUp w cs vs ds h ≡ Gives ns → decided (lookedUp w cs vs ds h) ≡ answered (answer (rulesOf cs vs ds) h)
-  unfolding lookedUp
-  looked-given {ns} e =
-      let f = then-second (headerCheck w h) _ ns (then-second (checkList w 1 cs vs ds) _ ns e) in
-      ap decided (e ∙ sym f) ∙ decided-answered w (rulesOf cs vs ds) h (list-sound w 1 cs vs ds (list-first w 1 cs vs ds _ e) .valid)
+  module _ {ns : List ℕ} (e : lookedUp w cs vs ds h ≡ Gives ns) where
+    -- A lookup that is not refused replies what is found.
+    given-found : firstHit (rulesOf cs vs ds) h ≡ Gives ns
+    unfolding lookedUp
+    given-found = then-second (headerCheck w h) _ ns (then-second (checkList w 1 cs vs ds) _ ns e)
+
+    -- It decides what the list answers.
+    pub looked-given : decided (lookedUp w cs vs ds h) ≡ answered (answer (rulesOf cs vs ds) h)
+    unfolding lookedUp
+    looked-given =
+        ap decided (e ∙ sym given-found) ∙ decided-answered w (rulesOf cs vs ds) h (list-sound w 1 cs vs ds (list-first w 1 cs vs ds _ e) .valid)
+
+  -- The number that a lookup gives is that of the rule that is hit, counted from 1; the decision beside it is that rule's, and what the
+  -- list answers.
+  pub hit-told : (n d : ℕ) → lookedUp w cs vs ds h ≡ Gives (n ∷ d ∷ [])
+      → (i : ℕ) × (n ≡ i + 1) × Hits (rulesOf cs vs ds) h i × (ruleAt (rulesOf cs vs ds) i .decision ≡ d) × (answer (rulesOf cs vs ds) h ≡ d)
+  hit-told n d e = reply-told (rulesOf cs vs ds) h n d (given-found e)
 
 -- ---- two lists
 

@@ -1,8 +1,8 @@
 -- Laws of the rule that a header hits: it stands where `position` says, it is the only one, and its decision is what the list answers.
-use mathlib.Core.Path.{_≡_, refl, sym, ap, ap₂, _∙_}
+use mathlib.Core.Path.{_≡_, refl, sym, ap, ap₂, _∙_, subst}
 use mathlib.Core.List.{List, [], _∷_, map}
 use mathlib.Core.Bool.{Bool, true, false}
-use Prim.Native.Nat.{ℕ, zero, suc, _+_, _≤_, _<_}
+use Prim.Native.Nat.{ℕ, zero, suc, _+_, _<_}
 use native.Mathlib.Omega.{arith}
 use lib.Dec.{ltb}
 use lib.ListN.{length, getD, List·getD-eq-default, length-map}
@@ -12,7 +12,7 @@ use Rattle.rules.specs.Rule.{Rule}
 use Rattle.rules.specs.Rules.{matches, position, answer, noMatch, Valid}
 use Rattle.rules.specs.Lists.{All}
 use Rattle.rules.specs.Slices.{ruleAt}
-use Rattle.rules.specs.Found.{Hits, Misses}
+use Rattle.rules.specs.Found.{NoneBefore, Hits, Misses}
 use Rattle.rules.specs.Replies.{Gives}
 use Rattle.rules.specs.Calls.{givesIf, firstHit, decided, answered}
 use Rattle.rules.proofs.ReplyLaws.{two-none, two-values}
@@ -21,11 +21,11 @@ use Rattle.rules.proofs.RuleLaws.{valid-at, answer-position, position-h
 -- ---- where the rule stands
 
 -- by the test whether the position is inside the list: where it is not, it is the list's end
-inside : (rs : List Rule) (h : ℕ) → ltb (position rs h) (length rs) ≡ true → position rs h < length rs
-inside rs h y = ltb-true (position rs h) (length rs) y
+inside-list : (rs : List Rule) (h : ℕ) → ltb (position rs h) (length rs) ≡ true → position rs h < length rs
+inside-list rs h y = ltb-true (position rs h) (length rs) y
 
-at-end : (rs : List Rule) (h : ℕ) → ltb (position rs h) (length rs) ≡ false → position rs h ≡ length rs
-at-end rs h n = omega (arith, ltb-false (position rs h) (length rs) n, position-le rs h)
+end-of-list : (rs : List Rule) (h : ℕ) → ltb (position rs h) (length rs) ≡ false → position rs h ≡ length rs
+end-of-list rs h n = omega (arith, ltb-false (position rs h) (length rs) n, position-le rs h)
 
 -- the rule at the position of the first match matches
 position-matches : (rs : List Rule) (h : ℕ) → position rs h < length rs → matches (ruleAt rs (position rs h)) h ≡ true
@@ -39,7 +39,7 @@ position-matches (r ∷ rs) h l =
     ∙ position-matches rs h (omega (arith, position-miss r rs h e)))
 
 -- no rule before it does
-position-before : (rs : List Rule) (h j : ℕ) → j < position rs h → matches (ruleAt rs j) h ≡ false
+position-before : (rs : List Rule) (h : ℕ) → NoneBefore rs h (position rs h)
 unfolding position
 position-before [] h j l = absurd (omega arith)
 position-before (r ∷ rs) h zero l = split (matches r h) (λ e. absurd (omega (arith, position-hit r rs h e))) (λ e. e)
@@ -69,8 +69,8 @@ position-hits rs h i l e =
 pub misses-end : (rs : List Rule) (h : ℕ) → Misses rs h → position rs h ≡ length rs
 misses-end rs h m =
     split (ltb (position rs h) (length rs))
-    (λ y. absurd (true-false (position-matches rs h (inside rs h y)) (m (position rs h) (inside rs h y))))
-    (λ n. at-end rs h n)
+    (λ y. absurd (true-false (position-matches rs h (inside-list rs h y)) (m (position rs h) (inside-list rs h y))))
+    (λ n. end-of-list rs h n)
 
 pub end-misses : (rs : List Rule) (h : ℕ) → position rs h ≡ length rs → Misses rs h
 end-misses rs h e j l = position-before rs h j (omega arith)
@@ -113,15 +113,21 @@ hit-reply rs h i d x =
     ∙ ap₂ (λ (n a : ℕ). Gives ((n + 1) ∷ a ∷ [])) e (hits-answer rs h i (x .0) ∙ x .1)
 
 -- what is given by a number and a decision is the rule that is hit
-pub reply-hit : (rs : List Rule) (h i d : ℕ) → firstHit rs h ≡ Gives ((i + 1) ∷ d ∷ []) → Hits rs h i × (ruleAt rs i .decision ≡ d)
-reply-hit rs h i d e =
+pub reply-told : (rs : List Rule) (h n d : ℕ) → firstHit rs h ≡ Gives (n ∷ d ∷ [])
+    → (i : ℕ) × (n ≡ i + 1) × Hits rs h i × (ruleAt rs i .decision ≡ d) × (answer rs h ≡ d)
+reply-told rs h n d e =
     split (ltb (position rs h) (length rs))
     (λ y.
     let p = two-values (sym (tested rs h true y) ∙ e) in
-    let k : position rs h ≡ i = omega (arith, p .0) in
-    let l : i < length rs = omega (arith, inside rs h y) in
-    (position-hits rs h i l k, sym (answer-there rs h i l k) ∙ p .1))
+    let l = inside-list rs h y in
+    (position rs h, sym (p .0), position-hits rs h (position rs h) l refl, sym (answer-there rs h (position rs h) l refl) ∙ p .1, p .1))
     (λ n. absurd (two-none (sym (sym (tested rs h false n) ∙ e))))
+
+pub reply-hit : (rs : List Rule) (h i d : ℕ) → firstHit rs h ≡ Gives ((i + 1) ∷ d ∷ []) → Hits rs h i × (ruleAt rs i .decision ≡ d)
+reply-hit rs h i d e =
+    let t = reply-told rs h (i + 1) d e in
+    let k : t .0 ≡ i = omega (arith, t .1) in
+    (subst (Hits rs h) k (t .2), ap (λ (j : ℕ). ruleAt rs j .decision) (sym k) ∙ t .3)
 
 -- where none is hit nothing is given, and the other way round
 pub miss-reply : (rs : List Rule) (h : ℕ) → Misses rs h → firstHit rs h ≡ Gives []
@@ -130,16 +136,16 @@ miss-reply rs h m = tested rs h false (le-ltb (position rs h) (length rs) (omega
 pub reply-miss : (rs : List Rule) (h : ℕ) → firstHit rs h ≡ Gives [] → Misses rs h
 reply-miss rs h e =
     split (ltb (position rs h) (length rs)) (λ y. absurd (two-none (sym (tested rs h true y) ∙ e)))
-    (λ n. end-misses rs h (at-end rs h n))
+    (λ n. end-misses rs h (end-of-list rs h n))
 
 -- The reply without the rule's number is the list's answer.
 pub decided-answered : (w : ℕ) (rs : List Rule) (h : ℕ) → All (Valid w) rs → decided (firstHit rs h) ≡ answered (answer rs h)
 decided-answered w rs h a =
     split (ltb (position rs h) (length rs))
     (λ y.
-    let l = inside rs h y in
+    let l = inside-list rs h y in
     let e = answer-there rs h (position rs h) l refl in
     let s = valid-at w rs (position rs h) a l .decides in
     ap decided (tested rs h true y)
     ∙ sym (ap (λ (t : Bool). givesIf t (Gives []) (Gives (answer rs h ∷ []))) (ne-eqb (answer rs h) noMatch (omega arith))))
-    (λ n. ap decided (tested rs h false n) ∙ sym (ap answered (answer-end rs h (at-end rs h n))))
+    (λ n. ap decided (tested rs h false n) ∙ sym (ap answered (answer-end rs h (end-of-list rs h n))))
