@@ -65,6 +65,8 @@ def examples():
     yield woven(2, all_seven("00", "01", "10", "11")) == (all_seven("**"), (1, 0, 3))
     yield woven(2, [("1*", 1), ("00", 2)])[0] == [("00", 2), ("1*", 1)]
     yield woven(5, []) == ([], (0, 0, 0)) and model.lookup(5, [], [], [], 3) is None
+    nested = slices([("00*", 7), ("0**", 7), ("***", 8)])
+    yield [model.lookup(3, *nested, header) for header in (0, 2, 4)] == [(1, 7), (2, 7), (3, 8)]
     yield model.prefix_swap(4, [], [], []).order() == [1, 2, 3, 4]
     old, new = [("0**", 1)], [("00*", 1), ("1*1", 1)]
     runs = [(2, 3, 1, none), (5, 5, none, 1), (7, 7, none, 1)]
