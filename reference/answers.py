@@ -128,6 +128,14 @@ class Words:
             raise Unreadable("so many rules are not meant: %s" % name)
         return rules
 
+    def default(self):
+        """The default of a side of a comparison, or None: `none` says here that there is none, and is not the number 65,535."""
+        self.expect("default")
+        if self.next() == "none":
+            self.take()
+            return None
+        return self.number(None, 65535)
+
     def runs(self):
         """The four result slices of a comparison."""
         self.expect("into")
@@ -390,6 +398,14 @@ def compare(words):
     return lambda: compared(results, model.compare, width, old, new, start)
 
 
+def compare_outcomes(words):
+    width = words.width()
+    old, old_default = words.list("old"), words.default()
+    new, new_default = words.list("new"), words.default()
+    start, results = words.header("start"), words.runs()
+    return lambda: compared(results, model.compare_outcomes, width, old, old_default, new, new_default, start)
+
+
 def on_image(call):
     def asked(words):
         image = words.bytes("image")
@@ -471,6 +487,20 @@ def compare_first(words):
     return lambda: compared(results, model.compare_first, old, new, start)
 
 
+def compare_list_outcomes(words):
+    old, old_id, old_default = words.bytes("old"), words.number("id", 65535), words.default()
+    new, new_id, new_default = words.bytes("new"), words.number("id", 65535), words.default()
+    start, results = words.header("start"), words.runs()
+    return lambda: compared(results, model.compare_list_outcomes, old, old_id, old_default, new, new_id, new_default, start)
+
+
+def compare_first_outcomes(words):
+    old, old_default = words.bytes("old"), words.default()
+    new, new_default = words.bytes("new"), words.default()
+    start, results = words.header("start"), words.runs()
+    return lambda: compared(results, model.compare_first_outcomes, old, old_default, new, new_default, start)
+
+
 CALLS = {
     "check_list": check_list,
     "check_list_as": check_list_as,
@@ -494,6 +524,7 @@ CALLS = {
     "runs": runs,
     "weave": weave,
     "compare": compare,
+    "compare_outcomes": compare_outcomes,
     "check": on_image(model.check_image),
     "format": on_image(model.image_format),
     "width": on_image(model.image_width),
@@ -507,6 +538,8 @@ CALLS = {
     "weave_image": weave_image,
     "compare_lists": compare_lists,
     "compare_first": compare_first,
+    "compare_list_outcomes": compare_list_outcomes,
+    "compare_first_outcomes": compare_first_outcomes,
 }
 
 

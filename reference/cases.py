@@ -29,6 +29,11 @@ def swap_text(swap):
     return "swap %d %s" % (swap.width, numbers_said(places))
 
 
+def default_text(default):
+    """The default of a side; `none` where there is none."""
+    return "none" if default is None else str(default)
+
+
 def marks(first, length):
     """What a result slice holds before a call: numbers that all differ, or one number where it is long."""
     if length == 0:
@@ -131,6 +136,18 @@ class Maker:
             header = (value | (header & ~care)) % 2**width
         return self.pick(header, header, header, header, 0, 2**width - 1)
 
+    def default(self, own, other):
+        """The default of a side with this list against another one: none, a decision of its own list, or any; often one of the
+        other list, so that outcomes agree where this one misses."""
+        choice = self.random.randrange(8)
+        if choice < 2:
+            return None
+        if choice < 5 and other[2]:
+            return self.random.choice(other[2])
+        if choice < 6 and own[2]:
+            return self.random.choice(own[2])
+        return self.decision()
+
     def swap(self, width):
         return model.swap_of(self.random.sample(range(1, width + 1), width))
 
@@ -231,6 +248,15 @@ class Maker:
             count = self.pick(1023, 1024, 1025)
         list = self.list_of(width, count)
         return self.bad_list(width, list) if self.chance(percent) else list
+
+    def any_defaults(self, old, new, percent=8):
+        """The defaults of both sides, now and then the same; and one that is refused, or both."""
+        a, b = self.default(old, new), self.default(new, old)
+        if self.chance(20):
+            a, b = self.pick((a, a), (b, b))
+        if self.chance(percent):
+            a, b = self.pick((65535, b), (a, 65535), (65535, 65535))
+        return a, b
 
     def any_swap(self, width, percent=20):
         swap = self.swap(width)
@@ -397,19 +423,41 @@ def like(make, width, list):
     return slices_of(rules)
 
 
-def compare(make):
+def closed(list, default):
+    """The list with a default as its last rule, which has only stars."""
+    return slices_of(words_and_decisions(*list) + [(0, 0, default)])
+
+
+def two_sides(make):
+    """A width, two lists with a default each, all as text, and a start. Now and then the one list has the other's default as its
+    last rule."""
     good = make.width()
     list_of, most = (make.prefix_list, 60) if make.chance(15) else (make.list_of, 12)
     old = list_of(good, make.some(most))
     new = like(make, good, old) if make.chance(60) else list_of(good, make.some(most))
+    old_default, new_default = make.any_defaults(old, new)
+    if make.chance(15):
+        if make.chance(50) and old_default not in (None, 65535):
+            new = closed(new, old_default)
+        elif new_default not in (None, 65535):
+            old = closed(old, new_default)
     start = make.pick(0, 0, make.any_header(good, old), make.any_header(good, new))
     if make.chance(8):
         old = make.bad_list(good, old)
     if make.chance(8):
         new = make.bad_list(good, new)
-    width = make.any_width(good, 4)
-    text = "compare width %d old %s new %s" % (width, list_said(good, *old), list_said(good, *new))
-    return "%s start %d into %s" % (text, start, make.run_marks())
+    width = "width %d" % make.any_width(good, 4)
+    return width, list_said(good, *old), default_text(old_default), list_said(good, *new), default_text(new_default), start
+
+
+def compare(make):
+    width, old, _, new, _, start = two_sides(make)
+    return "compare %s old %s new %s start %d into %s" % (width, old, new, start, make.run_marks())
+
+
+def compare_outcomes(make):
+    text = "compare_outcomes %s old %s default %s new %s default %s start %d" % two_sides(make)
+    return "%s into %s" % (text, make.run_marks())
 
 
 def format_for(make, width):
@@ -629,19 +677,41 @@ def asked_id(make, lists):
     return id if make.chance(88) else make.pick(0, 65535, id + 1, id - 1) % 65536
 
 
-def compare_lists(make):
+def image_sides(make, by_ids):
+    """Two images as text, each with the id of a list, where lists are asked for by ids, and a default; and a start."""
     width, old, new, images = two_images(make)
-    old_id = asked_id(make, old)
-    new_id = old_id if make.chance(70 if old_id in new else 10) else asked_id(make, new)
-    start = make.pick(0, 0, make.any_header(width, old.get(old_id)), make.any_header(width, new.get(new_id)))
-    text = "compare_lists old %s id %d new %s id %d" % (numbers_said(images[0]), old_id, numbers_said(images[1]), new_id)
-    return "%s start %d into %s" % (text, start, make.run_marks())
+    old_id, new_id = min(old), min(new)
+    if by_ids:
+        old_id = asked_id(make, old)
+        new_id = old_id if make.chance(70 if old_id in new else 10) else asked_id(make, new)
+    no_list = slices_of([])
+    old_list, new_list = old.get(old_id, no_list), new.get(new_id, no_list)
+    start = make.pick(0, 0, make.any_header(width, old_list), make.any_header(width, new_list))
+    old_default, new_default = make.any_defaults(old_list, new_list)
+    old_side = numbers_said(images[0]), old_id, default_text(old_default)
+    new_side = numbers_said(images[1]), new_id, default_text(new_default)
+    return old_side, new_side, start
+
+
+def compare_lists(make):
+    (old, old_id, _), (new, new_id, _), start = image_sides(make, True)
+    return "compare_lists old %s id %d new %s id %d start %d into %s" % (old, old_id, new, new_id, start, make.run_marks())
 
 
 def compare_first(make):
-    width, old, new, images = two_images(make)
-    start = make.pick(0, 0, make.any_header(width, old[min(old)]), make.any_header(width, new[min(new)]))
-    text = "compare_first old %s new %s" % tuple(numbers_said(image) for image in images)
+    (old, _, _), (new, _, _), start = image_sides(make, False)
+    return "compare_first old %s new %s start %d into %s" % (old, new, start, make.run_marks())
+
+
+def compare_list_outcomes(make):
+    old, new, start = image_sides(make, True)
+    text = "compare_list_outcomes old %s id %d default %s new %s id %d default %s" % (old + new)
+    return "%s start %d into %s" % (text, start, make.run_marks())
+
+
+def compare_first_outcomes(make):
+    (old, _, old_default), (new, _, new_default), start = image_sides(make, False)
+    text = "compare_first_outcomes old %s default %s new %s default %s" % (old, old_default, new, new_default)
     return "%s start %d into %s" % (text, start, make.run_marks())
 
 
@@ -658,10 +728,15 @@ KINDS = {
     },
     "swaps": {"prefix_swap": prefix_swap, "lookup_swapped": lookup_swapped, "swap": swaps},
     "weaving": {"runs": runs, "weave": weave},
-    "compare": {"comparison": compare},
+    "compare": {"comparison": compare, "compare_outcomes": compare_outcomes},
     "image": {"images": image, "write": write},
     "woven": {"weave_image": weave_image, "tally": tally},
-    "lists": {"compare_lists": compare_lists, "compare_first": compare_first},
+    "lists": {
+        "compare_lists": compare_lists,
+        "compare_first": compare_first,
+        "compare_list_outcomes": compare_list_outcomes,
+        "compare_first_outcomes": compare_first_outcomes,
+    },
 }
 
 

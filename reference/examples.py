@@ -41,10 +41,19 @@ def refusal(call, *arguments):
     return None
 
 
+def runs_found(room, call, *arguments):
+    """The runs that a comparison puts into results with so many places, and where the next one starts."""
+    first, last, old, new = [0] * 2 * room, [0] * 2 * room, [0] * room, [0] * room
+    count, more = call(*arguments, first, last, old, new)
+    return list(zip(model.words_of(first), model.words_of(last), old, new))[:count], more
+
+
 def compared(width, old, new, start=0, room=10):
-    first, last, old_answer, new_answer = [0] * 2 * room, [0] * 2 * room, [0] * room, [0] * room
-    count, more = model.compare(width, slices(old), slices(new), start, first, last, old_answer, new_answer)
-    return list(zip(model.words_of(first), model.words_of(last), old_answer, new_answer))[:count], more
+    return runs_found(room, model.compare, width, slices(old), slices(new), start)
+
+
+def outcomes(width, old, old_default, new, new_default, start=0, room=10):
+    return runs_found(room, model.compare_outcomes, width, slices(old), old_default, slices(new), new_default, start)
 
 
 def all_seven(*patterns):
@@ -78,6 +87,20 @@ def examples():
         yield compared(width, [("*" * width, 1)], []) == ([(0, 2**width - 1, 1, none)], None)
         last = [("*" * (width - 1) + "1", 5)]
         yield compared(width, last, last) == ([], None)
+    yield outcomes(3, old, None, new, None) == (runs, None) and outcomes(3, old, 1, new, 1) == ([], None)
+    yield outcomes(3, old, 1, new, None) == ([(2, 4, 1, none), (6, 6, 1, none)], None)
+    yield outcomes(3, old, None, new, 1) == ([(4, 7, none, 1)], None)
+    yield outcomes(3, old, 2, new, 2, room=1) == ([(2, 3, 1, 2)], 5) and outcomes(3, old, 1, new, None, start=4, room=1)[1] == 6
+    left, right = [("0*", 1)], [("*1", 2)]
+    yield outcomes(2, left, None, right, None)[0] == [(0, 0, 1, none), (1, 1, 1, 2), (3, 3, none, 2)]
+    yield outcomes(2, left, None, right, 1)[0] == [(1, 1, 1, 2), (2, 2, none, 1), (3, 3, none, 2)]
+    yield outcomes(2, left, 2, right, 1)[0] == [(1, 1, 1, 2), (2, 2, 2, 1)] and outcomes(2, left, 1, right, 2)[0] == [(0, 3, 1, 2)]
+    yield outcomes(128, [], 7, [("*" * 128, 7)], None) == ([], None) and outcomes(128, [], 7, [], 7) == ([], None)
+    yield outcomes(128, [], 7, [], 8) == ([(0, 2**128 - 1, 7, 8)], None)
+    yield refusal(outcomes, 3, [("0**", none)], none, new, none) == (5, 1, 1)
+    yield refusal(outcomes, 3, old, none, new, none, 8, 0) == (5, 1, 0)
+    yield refusal(outcomes, 3, old, 1, new, none, 8, 0) == (5, 2, 0)
+    yield refusal(outcomes, 3, old, 65534, new, None, 8, 0) == (6, 0, 0)
     yield refusal(model.invert, model.Swap([1, 1] + [0] * 126, 2)) == (9, 0, 0)
     yield refusal(model.check_list, 3, [2, 0], [1, 0], [0]) == (4, 1, 1)
     yield refusal(model.check_list, 0, [], [], []) == refusal(model.check_list, 129, [], [], []) == (1, 0, 0)
@@ -92,6 +115,8 @@ def examples():
     for format in (1, 2):
         other = image_of(format, 3, [[("00*", 1), ("1*1", 1)]])
         yield model.bench(image, other) == "width 3\n2 3 1 none\n5 5 none 1\n7 7 none 1\nruns 3\n"
+        yield runs_found(10, model.compare_first_outcomes, image, None, other, 1, 0) == ([(4, 7, none, 1)], None)
+        yield runs_found(10, model.compare_list_outcomes, image, 1, 1, other, 1, 1, 0) == ([], None)
     wide = bytes([2, 65, 1, 0, 12, 0, 0, 0, 1, 0, 1, 0] + [0] * 8 + [1] + [0] * 23 + [1, 0])
     yield image_of(2, 65, [[("0" + "*" * 64, 1)]]) == wide and len(wide) == 46 and refusal(model.check_image, wide) is None
     yield refusal(model.check_image, b"\1" + wide[1:]) == (1, 0, 0) and refusal(model.check_image, b"\3" + wide[1:]) == (11, 0, 0)
@@ -108,12 +133,18 @@ def answers(width, rules):
 def walks():
     """Random lists of small widths: what the model says against what every header says."""
     make = cases.Maker(1)
+    any_miss = lambda: make.pick(make.decision(), model.NO_MATCH)
     for _ in range(300):
         width = make.random.randint(1, 6)
         lists = [model.rules_of(width, *make.list_of(width, make.some(8))) for _ in range(2)]
         old, new = lists
-        by_headers = list(joined(model.stretches_by_headers(width, old, new)))
-        yield list(joined(model.stretches_by_places(width, old, new, 0))) == by_headers
+        for misses in [(model.NO_MATCH, model.NO_MATCH), (any_miss(), any_miss())]:
+            sides = list(zip(lists, misses))
+            by_headers = list(joined(model.stretches_by_headers(width, *sides)))
+            yield list(joined(model.stretches_by_places(width, *sides, 0))) == by_headers
+            yield list(joined(model.differences(width, *sides, 0))) == by_headers
+            closed = [(rules + [("*" * width, miss)], None) for rules, miss in sides]  # a last rule of stars leaves no miss
+            yield list(model.differences(width, *closed, 0)) == list(model.differences(width, *sides, 0))
         yield answers(width, woven(width, old)[0]) == answers(width, old) and sum(woven(width, old)[1]) == len(old)
         for a, _ in old:
             for b, _ in new:

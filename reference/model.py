@@ -116,10 +116,15 @@ def hit(rules, header):
     return None
 
 
+def outcome(rules, miss, header):
+    """The decision of the first rule that matches the header (as text), or what a miss counts as."""
+    found = hit(rules, header)
+    return miss if found is None else found[1]
+
+
 def answer(rules, header):
     """The decision of the first rule that matches the header (as text), or NO_MATCH."""
-    found = hit(rules, header)
-    return NO_MATCH if found is None else found[1]
+    return outcome(rules, NO_MATCH, header)
 
 
 # Checks, each with its refusal number. ----------------------------------------------------------------------------------
@@ -146,6 +151,12 @@ def check_bare_list(width, list, care, value, decision):
         raise Refused(3, list, 0)
     for k, rule in enumerate(words_and_decisions(care, value, decision)):
         check_bare_rule(width, list, k + 1, *rule)
+
+
+def check_default(list, default):
+    """As a rule's decision, the default of a side is not NO_MATCH; its place has no rule. None is no default."""
+    if default == NO_MATCH:
+        raise Refused(5, list, 0)
 
 
 def check_header(width, header):
@@ -380,11 +391,16 @@ def weave(width, care, value, decision, out_care, out_value, out_decision):
 BY_HEADERS = 10  # up to this width every header is looked up
 
 
+def side(width, slices, default):
+    """A side of the comparison: its rules, and what a miss counts as, which is its default, or NO_MATCH where it has none."""
+    return rules_of(width, *slices), NO_MATCH if default is None else default
+
+
 def stretches_by_headers(width, old, new):
-    """For every header, lowest first: the header twice, its old answer, its new answer."""
+    """For every header, lowest first: the header twice, its old outcome, its new outcome."""
     for h in range(2**width):
         header = bits(width, h)
-        yield h, h, answer(old, header), answer(new, header)
+        yield h, h, outcome(*old, header), outcome(*new, header)
 
 
 def narrowed(rules, digit):
@@ -399,22 +415,22 @@ def narrowed(rules, digit):
     return tuple(left)
 
 
-def settled(rules):
-    """The one answer that every header gets, or None where that is not to be seen at once."""
+def settled(rules, miss):
+    """The one outcome that every header gets, or None where that is not to be seen at once."""
     if not rules:
-        return NO_MATCH
+        return miss
     if rules[0][0].strip("*") == "":
         return rules[0][1]
     return None
 
 
 class Tree:
-    """Both lists' answers by the first place, then by the second, and so on; equal parts are made once. A part in which both
-    answers are settled is a pair of answers, any other part is its two halves and whether the answers ever differ in it. Of a
-    part in which both lists have the same rules, no more is said than that they never do."""
+    """Both sides' outcomes by the first place, then by the second, and so on; equal parts are made once. A part in which both
+    outcomes are settled is a pair of outcomes, any other part is its two halves and whether the outcomes ever differ in it. Where a
+    miss counts as the same on both sides, no more is said of a part with the same rules on both than that they never do."""
 
-    def __init__(self):
-        self.made = {}
+    def __init__(self, old_miss, new_miss):
+        self.old_miss, self.new_miss, self.made = old_miss, new_miss, {}
 
     def part(self, old, new):
         if (old, new) not in self.made:
@@ -422,9 +438,9 @@ class Tree:
         return self.made[old, new]
 
     def make(self, old, new):
-        if old == new:
+        if old == new and self.old_miss == self.new_miss:
             return (NO_MATCH, NO_MATCH, False)
-        a, b = settled(old), settled(new)
+        a, b = settled(old, self.old_miss), settled(new, self.new_miss)
         if a is not None and b is not None:
             return (a, b, a != b)
         low = self.part(narrowed(old, "0"), narrowed(new, "0"))
@@ -435,8 +451,8 @@ class Tree:
 
 
 def stretches_by_places(width, old, new, start):
-    """Stretches of consecutive headers with settled answers, lowest first, from the one that holds the start. Parts in which
-    no answer differs are left out."""
+    """Stretches of consecutive headers with settled outcomes, lowest first, from the one that holds the start. Parts in which
+    no outcome differs are left out."""
 
     def walk(part, first, size):
         if first + size <= start or not part[2]:
@@ -447,12 +463,13 @@ def stretches_by_places(width, old, new, start):
             yield from walk(part[0], first, size // 2)
             yield from walk(part[1], first + size // 2, size // 2)
 
-    yield from walk(Tree().part(tuple(old), tuple(new)), 0, 2**width)
+    (old_rules, old_miss), (new_rules, new_miss) = old, new
+    yield from walk(Tree(old_miss, new_miss).part(tuple(old_rules), tuple(new_rules)), 0, 2**width)
 
 
 def differences(width, old, new, start):
-    """The runs of differences at or after the start, lowest first: first header, last header, old answer, new answer. Each is
-    as long as both answers stay."""
+    """The runs of differences of two sides at or after the start, lowest first: first header, last header, old outcome, new
+    outcome. Each is as long as both outcomes stay."""
     if width <= BY_HEADERS:
         stretches = stretches_by_headers(width, old, new)
     else:
@@ -472,27 +489,34 @@ def differences(width, old, new, start):
         yield run
 
 
-def compare(width, old, new, start, first, last, old_answer, new_answer):
-    """The number of runs put into the results, and the first header of the next run, or None where there is none. The answers
-    have one number to a run, and the headers two."""
+def compare_outcomes(width, old, old_default, new, new_default, start, first, last, old_outcome, new_outcome):
+    """The number of runs put into the results, and the first header of the next run, or None where there is none. The outcomes
+    have one number to a run, and the headers two. Each list has a default, or None. Both lists are checked before the defaults."""
     check_width(width)
     check_bare_list(width, 1, *old)
     check_bare_list(width, 2, *new)
+    check_default(1, old_default)
+    check_default(2, new_default)
     check_header(width, start)
-    room = len(old_answer)
-    if not len(first) == len(last) == 2 * room or len(new_answer) != room:
+    room = len(old_outcome)
+    if not len(first) == len(last) == 2 * room or len(new_outcome) != room:
         raise Refused(2)
     if room < 1:
         raise Refused(7)
     count = 0
-    for run in differences(width, rules_of(width, *old), rules_of(width, *new), start):
+    for run in differences(width, side(width, old, old_default), side(width, new, new_default), start):
         if count == room:
             return count, run[0]
         put_words(first, count, [run[0]])
         put_words(last, count, [run[1]])
-        old_answer[count], new_answer[count] = run[2:]
+        old_outcome[count], new_outcome[count] = run[2:]
         count += 1
     return count, None
+
+
+def compare(width, old, new, start, *results):
+    """The same where neither side has a default: the outcomes are the lists' answers."""
+    return compare_outcomes(width, old, None, new, None, start, *results)
 
 
 # Images. ----------------------------------------------------------------------------------------------------------------
@@ -690,24 +714,35 @@ def list_of(image, entry):
     return slices_of(body_rules(image, entry))
 
 
-def compare_lists(old_image, old_id, new_image, new_id, start, *results):
-    """The old image's list with the one id against the new image's with the other, as compare does two lists. All checks of the old
-    image and 15 for its list, all of the new image and 15 for its list, then 16; then 6 for the start, 2 and 7 for the results. A place
-    is the refused image's own entry and rule."""
+def compare_list_outcomes(old_image, old_id, old_default, new_image, new_id, new_default, start, *results):
+    """The old image's list with the one id against the new image's with the other, as compare_outcomes does two lists. All checks
+    of the old image and 15 for its list, all of the new image and 15 for its list, then 16; then 5 for the defaults, 6 for the
+    start, 2 and 7 for the results. A place is the refused image's own entry and rule; that of a default is 1, 0 on the old side and
+    2, 0 on the new one."""
     old = list_of(old_image, find(old_image, old_id))
     new = list_of(new_image, find(new_image, new_id))
     check_widths(old_image, new_image)
-    return compare(old_image[1], old, new, start, *results)
+    return compare_outcomes(old_image[1], old, old_default, new, new_default, start, *results)
 
 
-def compare_first(old_image, new_image, start, *results):
+def compare_first_outcomes(old_image, old_default, new_image, new_default, start, *results):
     """The first list of each image. An image that passes its checks has one, so there is no 15."""
     check_image(old_image)
     check_image(new_image)
     check_widths(old_image, new_image)
     old = list_of(old_image, entry_at(old_image, 0))
     new = list_of(new_image, entry_at(new_image, 0))
-    return compare(old_image[1], old, new, start, *results)
+    return compare_outcomes(old_image[1], old, old_default, new, new_default, start, *results)
+
+
+def compare_lists(old_image, old_id, new_image, new_id, start, *results):
+    """Lists by their ids, without defaults."""
+    return compare_list_outcomes(old_image, old_id, None, new_image, new_id, None, start, *results)
+
+
+def compare_first(old_image, new_image, start, *results):
+    """First lists, without defaults."""
+    return compare_first_outcomes(old_image, None, new_image, None, start, *results)
 
 
 def bench(old_image, new_image, most=1000):

@@ -29,7 +29,7 @@ pub fn answered(s: &[u8], w: &[u8], to: usize) -> usize {
         names::CHECK_RULE..=names::RULE_CROSSES => rules_calls::on_rules(call, s, end, w, to),
         names::APPLY_RULE..=names::COMPOSE => swaps_calls::on_swap(call, s, end, w, to),
         names::CHECK..=names::WEAVE_IMAGE => image_calls::on_image(call, s, end, w, to),
-        names::COMPARE_LISTS | names::COMPARE_FIRST => {
+        names::COMPARE_LISTS..=names::COMPARE_FIRST_OUTCOMES => {
             compare_calls::on_images(call, s, end, w, to)
         }
         _ => UNKNOWN,
@@ -63,7 +63,7 @@ fn head_of(call: usize, s: &[u8], from: usize) -> Head {
 fn on_list(call: usize, s: &[u8], from: usize, w: &[u8], to: usize) -> usize {
     let h = head_of(call, s, from);
     let name = match call {
-        names::COMPARE => names::OLD,
+        names::COMPARE | names::COMPARE_OUTCOMES => names::OLD,
         _ => names::LIST,
     };
     let l = given::read_list(s, h.at, name);
@@ -105,7 +105,9 @@ fn with_list(
         names::WRITE => {
             image_calls::write(s, at, h.format, h.width, care, value, decision, w, to)
         }
-        names::COMPARE => compare_calls::on_list(s, at, h.width, care, value, decision, w, to),
+        names::COMPARE | names::COMPARE_OUTCOMES => {
+            compare_calls::on_list(call, s, at, h.width, care, value, decision, w, to)
+        }
         names::LOOKUP..=names::LOOKUP_SWAPPED => {
             rules_calls::lookups(call, s, at, h.width, care, value, decision, w, to)
         }

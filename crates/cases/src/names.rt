@@ -24,107 +24,115 @@ pub const WRITE: usize = 8;
 
 pub const COMPARE: usize = 9;
 
-pub const RULE_AT: usize = 10;
+pub const COMPARE_OUTCOMES: usize = 10;
 
-pub const PUT_RULE: usize = 11;
+pub const RULE_AT: usize = 11;
 
-pub const CHECK_RULE: usize = 12;
+pub const PUT_RULE: usize = 12;
 
-pub const COVERS: usize = 13;
+pub const CHECK_RULE: usize = 13;
 
-pub const CROSSES: usize = 14;
+pub const COVERS: usize = 14;
 
-pub const DISTANCE: usize = 15;
+pub const CROSSES: usize = 15;
 
-pub const RULE_COVERS: usize = 16;
+pub const DISTANCE: usize = 16;
 
-pub const RULE_CROSSES: usize = 17;
+pub const RULE_COVERS: usize = 17;
 
-pub const APPLY_RULE: usize = 18;
+pub const RULE_CROSSES: usize = 18;
 
-pub const APPLY: usize = 19;
+pub const APPLY_RULE: usize = 19;
 
-pub const UNDO: usize = 20;
+pub const APPLY: usize = 20;
 
-pub const INVERT: usize = 21;
+pub const UNDO: usize = 21;
 
-pub const COMPOSE: usize = 22;
+pub const INVERT: usize = 22;
 
-pub const CHECK: usize = 23;
+pub const COMPOSE: usize = 23;
 
-pub const WIDTH: usize = 24;
+pub const CHECK: usize = 24;
 
-pub const FORMAT: usize = 25;
+pub const WIDTH: usize = 25;
 
-pub const COUNT: usize = 26;
+pub const FORMAT: usize = 26;
 
-pub const ENTRY: usize = 27;
+pub const COUNT: usize = 27;
 
-pub const BODY: usize = 28;
+pub const ENTRY: usize = 28;
 
-pub const BODY_REFUSAL: usize = 29;
+pub const BODY: usize = 29;
 
-pub const TALLY: usize = 30;
+pub const BODY_REFUSAL: usize = 30;
 
-pub const READ: usize = 31;
+pub const TALLY: usize = 31;
 
-pub const WEAVE_IMAGE: usize = 32;
+pub const READ: usize = 32;
 
-pub const COMPARE_LISTS: usize = 33;
+pub const WEAVE_IMAGE: usize = 33;
 
-pub const COMPARE_FIRST: usize = 34;
+pub const COMPARE_LISTS: usize = 34;
 
-pub const LIST: usize = 35;
+pub const COMPARE_FIRST: usize = 35;
 
-pub const OLD: usize = 36;
+pub const COMPARE_LIST_OUTCOMES: usize = 36;
 
-pub const NEW: usize = 37;
+pub const COMPARE_FIRST_OUTCOMES: usize = 37;
 
-pub const INTO: usize = 38;
+pub const LIST: usize = 38;
 
-pub const HEADERS: usize = 39;
+pub const OLD: usize = 39;
 
-pub const HEADER: usize = 40;
+pub const NEW: usize = 40;
 
-pub const AS: usize = 41;
+pub const DEFAULT: usize = 41;
 
-pub const NUMBER: usize = 42;
+pub const INTO: usize = 42;
 
-pub const RULE: usize = 43;
+pub const HEADERS: usize = 43;
 
-pub const RULES: usize = 44;
+pub const HEADER: usize = 44;
 
-pub const PLACE: usize = 45;
+pub const AS: usize = 45;
 
-pub const SWAP: usize = 46;
+pub const NUMBER: usize = 46;
 
-pub const START: usize = 47;
+pub const RULE: usize = 47;
 
-pub const IMAGE: usize = 48;
+pub const RULES: usize = 48;
 
-pub const ID: usize = 49;
+pub const PLACE: usize = 49;
 
-pub const IDS: usize = 50;
+pub const SWAP: usize = 50;
 
-pub const COUNTS: usize = 51;
+pub const START: usize = 51;
 
-pub const CARE: usize = 52;
+pub const IMAGE: usize = 52;
 
-pub const VALUE: usize = 53;
+pub const ID: usize = 53;
 
-pub const DECISION: usize = 54;
+pub const IDS: usize = 54;
 
-pub const FIRST: usize = 55;
+pub const COUNTS: usize = 55;
 
-pub const LAST: usize = 56;
+pub const CARE: usize = 56;
 
-pub const TIMES: usize = 57;
+pub const VALUE: usize = 57;
 
-pub const TO: usize = 58;
+pub const DECISION: usize = 58;
 
-pub const NONE: usize = 59;
+pub const FIRST: usize = 59;
 
-pub const HALF: usize = 60;
+pub const LAST: usize = 60;
+
+pub const TIMES: usize = 61;
+
+pub const TO: usize = 62;
+
+pub const NONE: usize = 63;
+
+pub const HALF: usize = 64;
 
 // The number of a word among all words; one that is none of them has the number 99. Most words of a case are numbers, which start with
 // no letter.
@@ -134,7 +142,7 @@ fn place_of(word: &[u8], all: &[u8]) -> usize {
     }
     let mut at = 0;
     let mut k = 0;
-    while k < 61 {
+    while k < 65 {
         let from = word_start(all, at);
         at = word_end(all, from);
         if check::same(part(all, from, at), word) {
@@ -149,6 +157,6 @@ fn place_of(word: &[u8], all: &[u8]) -> usize {
 pub fn number_of(word: &[u8]) -> usize {
     place_of(
         word,
-        b"check_list check_list_as lookup lookup_number lookup_swapped prefix_swap runs weave write compare rule_at put_rule check_rule covers crosses distance rule_covers rule_crosses apply_rule apply undo invert compose check width format count entry body body_refusal tally read weave_image compare_lists compare_first list old new into headers header as number rule rules place swap start image id ids counts care value decision first last times to none half",
+        b"check_list check_list_as lookup lookup_number lookup_swapped prefix_swap runs weave write compare compare_outcomes rule_at put_rule check_rule covers crosses distance rule_covers rule_crosses apply_rule apply undo invert compose check width format count entry body body_refusal tally read weave_image compare_lists compare_first compare_list_outcomes compare_first_outcomes list old new default into headers header as number rule rules place swap start image id ids counts care value decision first last times to none half",
     )
 }

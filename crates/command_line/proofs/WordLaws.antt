@@ -1,11 +1,12 @@
--- Laws of words that are compared byte by byte.
+-- Laws of words that are compared byte by byte, and of a command line that ends in defaults.
 use mathlib.Core.Path.{_≡_, refl, _∙_}
 use mathlib.Core.List.{List, [], _∷_}
 use mathlib.Core.Bool.{Bool, true}
-use Prim.Native.Nat.{ℕ}
-use lib.Dec.{eqb}
+use Prim.Native.Nat.{ℕ, _≤_}
+use lib.Dec.{eqb, leb}
+use borrow.Author.Tests.{leb-true}
 use Rattle.words.proofs.Tests.{eqb-yes, yes-eqb, and-true, true-and, true-false, same-test}
-use Rattle.command_line.specs.Words.{sameBytes}
+use Rattle.command_line.specs.Words.{sameBytes, namesDefaults}
 
 same-itself : (xs : List ℕ) → sameBytes xs xs ≡ true
 unfolding sameBytes
@@ -26,3 +27,8 @@ same-equal (x ∷ xs) (y ∷ ys) e =
 pub same-decided : (t : Bool) (xs ys : List ℕ) → (t ≡ true → xs ≡ ys) → (xs ≡ ys → t ≡ true) → t ≡ sameBytes xs ys
 same-decided t xs ys f g =
     same-test t (sameBytes xs ys) (λ e. rw (f e) (same-itself ys)) (λ e. g (same-equal xs ys e))
+
+-- A comparison that ends in its defaults has at least seven words.
+pub defaults-long : (word lastButTwo : List ℕ) (words : ℕ) → namesDefaults word lastButTwo words ≡ true → 7 ≤ words
+unfolding namesDefaults
+defaults-long word lastButTwo words e = leb-true 7 words (and-true (leb 7 words) _ e .0)

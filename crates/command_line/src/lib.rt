@@ -1,6 +1,6 @@
 // Which command the words of the tool's command line ask for.
 ghost use mathlib.Core.Path.{_≡_};
-ghost use Rattle.command_line.specs.Words.{asks, commandOf};
+ghost use Rattle.command_line.specs.Words.{asks, commandOf, namesDefaults, wantedOf};
 
 // What a command line can ask for.
 pub enum Command {
@@ -15,6 +15,14 @@ pub enum Command {
     Usage,
 }
 
+// What a command line asks for: the command, and where the words for the old and the new default of a comparison stand, counted from the
+// tool's own name; 0 where it names none.
+pub struct Wanted {
+    pub command: Command,
+    pub old: usize,
+    pub new: usize,
+}
+
 // Whether the first word is this name and there are so many words in all, the program's own name among them.
 fn is(word: &[u8], words: usize, name: &[u8], wanted: usize) -> bool
     ensures { λ r. ⌜ r ≡ asks (now (word .entry)) words (now (name .entry)) wanted ⌝ }
@@ -25,8 +33,8 @@ fn is(word: &[u8], words: usize, name: &[u8], wanted: usize) -> bool
     false
 }
 
-// The command that a command line asks for: its first word, and how many words there are with the tool's own name.
-pub fn asked(word: &[u8], words: usize) -> Command
+// The command that a command line without defaults asks for: its first word, and how many words there are with the tool's own name.
+fn command_of(word: &[u8], words: usize) -> Command
     ensures { λ r. ⌜ r ≡ commandOf (now (word .entry)) words ⌝ }
 {
     if is(word, words, b"check", 3) {
@@ -54,4 +62,35 @@ pub fn asked(word: &[u8], words: usize) -> Command
         return Command::CompareFrom;
     }
     Command::Usage
+}
+
+// Whether a comparison ends in its defaults: the last word but two is their name. There are words for two files before it, so none of
+// these is taken for it.
+fn names_defaults(word: &[u8], last_but_two: &[u8], words: usize) -> bool
+    ensures { λ r. ⌜ r ≡ namesDefaults (now (word .entry)) (now («last_but_two» .entry)) words ⌝ }
+{
+    if words >= 7 {
+        if check::same(word, b"compare") {
+            return check::same(last_but_two, b"defaults");
+        }
+    }
+    false
+}
+
+// What a command line asks for: its first word, its last word but two, and how many words there are with the tool's own name.
+pub fn asked(word: &[u8], last_but_two: &[u8], words: usize) -> Wanted
+    ensures { λ r. ⌜ r ≡ wantedOf (now (word .entry)) (now («last_but_two» .entry)) words ⌝ }
+{
+    if names_defaults(word, last_but_two, words) {
+        return Wanted {
+            command: command_of(word, words - 3),
+            old: words - 2,
+            new: words - 1,
+        };
+    }
+    Wanted {
+        command: command_of(word, words),
+        old: 0,
+        new: 0,
+    }
 }

@@ -2,4 +2,6 @@
 mod lists;
 
 pub use lists::compare_first;
+pub use lists::compare_first_outcomes;
+pub use lists::compare_list_outcomes;
 pub use lists::compare_lists;

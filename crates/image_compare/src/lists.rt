@@ -6,11 +6,12 @@ ghost use Rattle.rules.specs.Slices.{rulesOf};
 ghost use Rattle.rules.specs.Calls.{checkList};
 ghost use Rattle.image_form.specs.Images.{widthIn};
 ghost use Rattle.image_form.specs.Parts.{entryFrom};
-ghost use Rattle.image_compare.specs.Comparing.{ListsCompared, FirstCompared};
+ghost use Rattle.image_compare.specs.Comparing.{ListsCompared, FirstCompared, ListOutcomesCompared, FirstOutcomesCompared};
 ghost use Rattle.image_compare.specs.Parts.{RestCompared};
 use compare::Compared;
 use compare::Ending;
-use compare::compare;
+use compare::compare_outcomes;
+use compare_check::Default;
 use image::Outcome;
 use image::read;
 use image_form::byte_at;
@@ -29,14 +30,16 @@ fn refused(refusal: Refusal) -> Compared
 }
 
 // Compares a list of the old image, which was read out, with the new image's list. The new image's refusal and its 15, then
-// 16; then 6, 2 and 7.
+// 16; then 5 of the defaults; then 6, 2 and 7.
 fn compare_with(
     old: &[u8],
     care: &[u64],
     value: &[u64],
     decision: &[u16],
+    old_default: Default,
     new: &[u8],
     new_id: u16,
+    new_default: Default,
     start: Wire,
     first: &mut [u64],
     last: &mut [u64],
@@ -44,8 +47,8 @@ fn compare_with(
     new_answer: &mut [u16],
 ) -> Compared
     requires { ⌜ checkList (widthIn (now old)) 1 (now care) (now value) (now decision) ≡ passed ⌝ }
-    ensures { λ r. ⌜ RestCompared (widthIn (now (old .entry))) (rulesOf (now (care .entry)) (now (value .entry)) (now (decision .entry)))
-        (now (new .entry)) «new_id» (num (start .0))
+    ensures { λ r. ⌜ RestCompared (widthIn (now (old .entry))) (rulesOf (now (care .entry)) (now (value .entry)) (now (decision .entry))) «old_default»
+        (now (new .entry)) «new_id» «new_default» (num (start .0))
         (now (first .entry)) (now (last .entry)) (now («old_answer» .entry)) (now («new_answer» .entry))
         (now (first .exit)) (now (last .exit)) (now («old_answer» .exit)) (now («new_answer» .exit)) r ⌝ }
 {
@@ -65,14 +68,16 @@ fn compare_with(
                 });
             }
             let halves = rules * 2;
-            compare(
+            compare_outcomes(
                 width as u32,
                 care,
                 value,
                 decision,
+                old_default,
                 &cares[..halves],
                 &values[..halves],
                 &decisions[..rules],
+                new_default,
                 start,
                 first,
                 last,
@@ -83,21 +88,23 @@ fn compare_with(
     }
 }
 
-// Compares the old image's list `old_id` with the new image's list `new_id` from a header on, as `compare` does two lists. The
-// images may be of different formats.
-// The old image's refusal and its 15, the new image's and its 15, then 16; then 6, 2 and 7.
-pub fn compare_lists(
+// Compares the outcomes of the old image's list `old_id` and of the new image's list `new_id` from a header on, as `compare_outcomes`
+// does those of two lists. The images may be of different formats.
+// The old image's refusal and its 15, the new image's and its 15, then 16; then 5 of the old default and of the new one; then 6, 2 and 7.
+pub fn compare_list_outcomes(
     old: &[u8],
     old_id: u16,
+    old_default: Default,
     new: &[u8],
     new_id: u16,
+    new_default: Default,
     start: Wire,
     first: &mut [u64],
     last: &mut [u64],
     old_answer: &mut [u16],
     new_answer: &mut [u16],
 ) -> Compared
-    ensures { λ r. ⌜ ListsCompared (now (old .entry)) «old_id» (now (new .entry)) «new_id» (num (start .0))
+    ensures { λ r. ⌜ ListOutcomesCompared (now (old .entry)) «old_id» «old_default» (now (new .entry)) «new_id» «new_default» (num (start .0))
         (now (first .entry)) (now (last .entry)) (now («old_answer» .entry)) (now («new_answer» .entry))
         (now (first .exit)) (now (last .exit)) (now («old_answer» .exit)) (now («new_answer» .exit)) r ⌝ }
 {
@@ -114,8 +121,10 @@ pub fn compare_lists(
                 &cares[..halves],
                 &values[..halves],
                 &decisions[..rules],
+                old_default,
                 new,
                 new_id,
+                new_default,
                 start,
                 first,
                 last,
@@ -126,6 +135,38 @@ pub fn compare_lists(
     }
 }
 
+// Compares the old image's list `old_id` with the new image's list `new_id` from a header on: as `compare_list_outcomes` with no default
+// on both sides, so that a miss is no match.
+pub fn compare_lists(
+    old: &[u8],
+    old_id: u16,
+    new: &[u8],
+    new_id: u16,
+    start: Wire,
+    first: &mut [u64],
+    last: &mut [u64],
+    old_answer: &mut [u16],
+    new_answer: &mut [u16],
+) -> Compared
+    ensures { λ r. ⌜ ListsCompared (now (old .entry)) «old_id» (now (new .entry)) «new_id» (num (start .0))
+        (now (first .entry)) (now (last .entry)) (now («old_answer» .entry)) (now («new_answer» .entry))
+        (now (first .exit)) (now (last .exit)) (now («old_answer» .exit)) (now («new_answer» .exit)) r ⌝ }
+{
+    compare_list_outcomes(
+        old,
+        old_id,
+        Default::Absent,
+        new,
+        new_id,
+        Default::Absent,
+        start,
+        first,
+        last,
+        old_answer,
+        new_answer,
+    )
+}
+
 // The id of an image's first list; 0 where the bytes end before it. It is asked before the image is checked.
 fn first_id(image: &[u8]) -> u16
     ensures { λ r. ⌜ r ≡ entryFrom 4 (now (image .entry)) .id ⌝ }
@@ -134,8 +175,40 @@ fn first_id(image: &[u8]) -> u16
     entry.id as u16
 }
 
-// Compares the first list of the old image with the first of the new one, from a header on. The old image's refusal, then
-// the new one's, then 16; then 6, 2 and 7.
+// Compares the outcomes of the first list of the old image and of the first of the new one, from a header on. The old image's refusal,
+// then the new one's, then 16; then 5 of the old default and of the new one; then 6, 2 and 7.
+pub fn compare_first_outcomes(
+    old: &[u8],
+    old_default: Default,
+    new: &[u8],
+    new_default: Default,
+    start: Wire,
+    first: &mut [u64],
+    last: &mut [u64],
+    old_answer: &mut [u16],
+    new_answer: &mut [u16],
+) -> Compared
+    ensures { λ r. ⌜ FirstOutcomesCompared (now (old .entry)) «old_default» (now (new .entry)) «new_default» (num (start .0))
+        (now (first .entry)) (now (last .entry)) (now («old_answer» .entry)) (now («new_answer» .entry))
+        (now (first .exit)) (now (last .exit)) (now («old_answer» .exit)) (now («new_answer» .exit)) r ⌝ }
+{
+    compare_list_outcomes(
+        old,
+        first_id(old),
+        old_default,
+        new,
+        first_id(new),
+        new_default,
+        start,
+        first,
+        last,
+        old_answer,
+        new_answer,
+    )
+}
+
+// Compares the first list of the old image with the first of the new one, from a header on: as `compare_first_outcomes` with no default
+// on both sides.
 pub fn compare_first(
     old: &[u8],
     new: &[u8],
@@ -149,11 +222,11 @@ pub fn compare_first(
         (now (first .entry)) (now (last .entry)) (now («old_answer» .entry)) (now («new_answer» .entry))
         (now (first .exit)) (now (last .exit)) (now («old_answer» .exit)) (now («new_answer» .exit)) r ⌝ }
 {
-    compare_lists(
+    compare_first_outcomes(
         old,
-        first_id(old),
+        Default::Absent,
         new,
-        first_id(new),
+        Default::Absent,
         start,
         first,
         last,

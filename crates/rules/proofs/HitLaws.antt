@@ -9,7 +9,7 @@ use lib.ListN.{length, getD, List·getD-eq-default, length-map}
 use borrow.Author.Tests.{lt-ltb, le-ltb, ltb-true, ltb-false, ne-eqb}
 use Rattle.words.proofs.Tests.{split, true-false}
 use Rattle.rules.specs.Rule.{Rule}
-use Rattle.rules.specs.Rules.{matches, position, answer, noMatch, Valid}
+use Rattle.rules.specs.Rules.{matches, first, position, answer, noMatch, Valid}
 use Rattle.rules.specs.Lists.{All}
 use Rattle.rules.specs.Slices.{ruleAt}
 use Rattle.rules.specs.Found.{NoneBefore, Hits, Misses}
@@ -77,26 +77,33 @@ end-misses rs h e j l = position-before rs h j (omega arith)
 
 -- ---- what the list answers there
 
-decision-at : (rs : List Rule) (i : ℕ) → i < length rs → getD (map (λ (r : Rule). r .decision) rs) i noMatch ≡ ruleAt rs i .decision
-decision-at [] i h = absurd (omega arith)
-decision-at (r ∷ rs) zero h = refl
-decision-at (r ∷ rs) (suc i) h = decision-at rs i (omega arith)
+decision-at : (rs : List Rule) (i d : ℕ) → i < length rs → getD (map (λ (r : Rule). r .decision) rs) i d ≡ ruleAt rs i .decision
+decision-at [] i d h = absurd (omega arith)
+decision-at (r ∷ rs) zero d h = refl
+decision-at (r ∷ rs) (suc i) d h = decision-at rs i d (omega arith)
 
--- the list answers what stands at the position
-answer-at : (rs : List Rule) (h i : ℕ) → position rs h ≡ i → answer rs h ≡ getD (map (λ (r : Rule). r .decision) rs) i noMatch
-answer-at rs h i e = answer-position rs h noMatch ∙ ap (λ (k : ℕ). getD (map (λ (x : Rule). x .decision) rs) k noMatch) e
+-- the list answers what stands at the position, whatever a miss counts as
+first-at : (rs : List Rule) (h i d : ℕ) → position rs h ≡ i → first rs h d ≡ getD (map (λ (r : Rule). r .decision) rs) i d
+first-at rs h i d e = answer-position rs h d ∙ ap (λ (k : ℕ). getD (map (λ (x : Rule). x .decision) rs) k d) e
 
-answer-there : (rs : List Rule) (h i : ℕ) → i < length rs → position rs h ≡ i → answer rs h ≡ ruleAt rs i .decision
-answer-there rs h i l e = answer-at rs h i e ∙ decision-at rs i l
+first-there : (rs : List Rule) (h i d : ℕ) → i < length rs → position rs h ≡ i → first rs h d ≡ ruleAt rs i .decision
+first-there rs h i d l e = first-at rs h i d e ∙ decision-at rs i d l
 
-answer-end : (rs : List Rule) (h : ℕ) → position rs h ≡ length rs → answer rs h ≡ noMatch
-answer-end rs h e =
-    answer-at rs h (length rs) e
-    ∙ List·getD-eq-default (map (λ (x : Rule). x .decision) rs) noMatch (omega (arith, length-map rs (λ (x : Rule). x .decision)))
+first-end : (rs : List Rule) (h d : ℕ) → position rs h ≡ length rs → first rs h d ≡ d
+first-end rs h d e =
+    first-at rs h (length rs) d e
+    ∙ List·getD-eq-default (map (λ (x : Rule). x .decision) rs) d (omega (arith, length-map rs (λ (x : Rule). x .decision)))
 
--- The decision of the rule that is hit is what the list answers.
+-- The decision of the rule that is hit is what the list answers, whatever a miss counts as.
+pub hits-first : (rs : List Rule) (h i d : ℕ) → Hits rs h i → first rs h d ≡ ruleAt rs i .decision
+hits-first rs h i d x = first-there rs h i d (x .within) (hits-position rs h i x)
+
 pub hits-answer : (rs : List Rule) (h i : ℕ) → Hits rs h i → answer rs h ≡ ruleAt rs i .decision
-hits-answer rs h i x = answer-there rs h i (x .within) (hits-position rs h i x)
+hits-answer rs h i x = hits-first rs h i noMatch x
+
+-- Where none is hit it is what a miss counts as.
+pub misses-first : (rs : List Rule) (h d : ℕ) → Misses rs h → first rs h d ≡ d
+misses-first rs h d m = first-end rs h d (misses-end rs h m)
 
 -- ---- the reply
 
@@ -120,7 +127,7 @@ reply-told rs h n d e =
     (λ y.
     let p = two-values (sym (tested rs h true y) ∙ e) in
     let l = inside-list rs h y in
-    (position rs h, sym (p .0), position-hits rs h (position rs h) l refl, sym (answer-there rs h (position rs h) l refl) ∙ p .1, p .1))
+    (position rs h, sym (p .0), position-hits rs h (position rs h) l refl, sym (first-there rs h (position rs h) noMatch l refl) ∙ p .1, p .1))
     (λ n. absurd (two-none (sym (sym (tested rs h false n) ∙ e))))
 
 pub reply-hit : (rs : List Rule) (h i d : ℕ) → firstHit rs h ≡ Gives ((i + 1) ∷ d ∷ []) → Hits rs h i × (ruleAt rs i .decision ≡ d)
@@ -144,8 +151,8 @@ decided-answered w rs h a =
     split (ltb (position rs h) (length rs))
     (λ y.
     let l = inside-list rs h y in
-    let e = answer-there rs h (position rs h) l refl in
+    let e = first-there rs h (position rs h) noMatch l refl in
     let s = valid-at w rs (position rs h) a l .decides in
     ap decided (tested rs h true y)
     ∙ sym (ap (λ (t : Bool). givesIf t (Gives []) (Gives (answer rs h ∷ []))) (ne-eqb (answer rs h) noMatch (omega arith))))
-    (λ n. ap decided (tested rs h false n) ∙ sym (ap answered (answer-end rs h (end-of-list rs h n))))
+    (λ n. ap decided (tested rs h false n) ∙ sym (ap answered (first-end rs h noMatch (end-of-list rs h n))))

@@ -8,10 +8,11 @@ use Rattle.words.specs.Halves.{num, halves}
 use Rattle.words.specs.Slices.{halvesOf}
 use Rattle.words.proofs.WordLaws.{holds}
 use Rattle.rules.specs.Replies.{Reply, Gives, _then_, unlessRefused}
+use Rattle.compare_check.specs.declared.Default.{Default}
 use Rattle.compare.specs.declared.Compared.{Compared}
 use Rattle.compare.specs.Runs.{Run, portion, ending}
 use Rattle.compare.specs.Calls.{PortionDone}
-use Rattle.image_compare.specs.Comparing.{FirstCompared, ListsCompared, compareFirstCheck, compareListsCheck}
+use Rattle.image_compare.specs.Comparing.{FirstOutcomesCompared, ListOutcomesCompared, firstOutcomesCheck, listOutcomesCheck}
 use Rattle.run_lines.specs.Shown.{room, numbers, Shown, FirstShown, ListsShown}
 
 pub same-parts : (r s : Compared) → r .count ≡ s .count → r .ending ≡ s .ending → r ≡ s
@@ -38,14 +39,19 @@ module _ (first′ last′ olds′ news′ : List ℕ) (r s : Compared) (e : s �
     count = p .count ∙ ap₂ (λ (c : Reply) (k : ℕ). length (unlessRefused c (portion k rs) [])) f places;
   })
 
-  pub first-shown : (old new : List ℕ) (start : ℕ) → FirstCompared old new start header-zeros header-zeros zeros zeros first′ last′ olds′ news′ r
-      → FirstShown old new start s
-  first-shown old new start p = shown _ _ _ (ap₂ (λ (m n : ℕ). compareFirstCheck old new start m m n n) header-places places) p
+  pub first-shown : (old : List ℕ) (oldDefault : Default) (new : List ℕ) (newDefault : Default) (start : ℕ)
+      → FirstOutcomesCompared old oldDefault new newDefault start header-zeros header-zeros zeros zeros first′ last′ olds′ news′ r
+      → FirstShown old oldDefault new newDefault start s
+  first-shown old oldDefault new newDefault start p =
+      shown _ _ _ (ap₂ (λ (m n : ℕ). firstOutcomesCheck old oldDefault new newDefault start m m n n) header-places places) p
 
-  pub lists-shown : (old : List ℕ) (i : ℕ) (new : List ℕ) (j : ℕ) (start : ℕ)
-      → ListsCompared old i new j start header-zeros header-zeros zeros zeros first′ last′ olds′ news′ r → ListsShown old i new j start s
-  lists-shown old i new j start p = shown _ _ _ (ap₂ (λ (m n : ℕ). compareListsCheck old i new j start m m n n) header-places places) p
+  pub lists-shown : (old : List ℕ) (i : ℕ) (oldDefault : Default) (new : List ℕ) (j : ℕ) (newDefault : Default) (start : ℕ)
+      → ListOutcomesCompared old i oldDefault new j newDefault start header-zeros header-zeros zeros zeros first′ last′ olds′ news′ r
+      → ListsShown old i oldDefault new j newDefault start s
+  lists-shown old i oldDefault new j newDefault start p =
+      shown _ _ _ (ap₂ (λ (m n : ℕ). listOutcomesCheck old i oldDefault new j newDefault start m m n n) header-places places) p
 
 -- The comparison from the word that holds 0 is that from header 0.
-pub from-zero : (old new : List ℕ) (z : Word) (r : Compared) → z ≡ halves 0 → FirstShown old new (num z) r → FirstShown old new 0 r
-from-zero old new z r e p = subst (λ (n : ℕ). FirstShown old new n r) (holds e) p
+pub from-zero : (old : List ℕ) (oldDefault : Default) (new : List ℕ) (newDefault : Default) (z : Word) (r : Compared) → z ≡ halves 0
+    → FirstShown old oldDefault new newDefault (num z) r → FirstShown old oldDefault new newDefault 0 r
+from-zero old oldDefault new newDefault z r e p = subst (λ (n : ℕ). FirstShown old oldDefault new newDefault n r) (holds e) p

@@ -4,6 +4,7 @@ use mathlib.Core.List.{List}
 use Prim.Native.Nat.{ℕ}
 use lib.ListN.{take}
 use Rattle.rules.specs.Replies.{Reply}
+use Rattle.compare_check.specs.declared.Default.{Default}
 use Rattle.compare.specs.declared.Compared.{Compared}
 use Rattle.compare.specs.Runs.{Run}
 use Rattle.compare.proofs.Unique.{one-ending}
@@ -16,19 +17,20 @@ shown-once check rs r s p q =
     same-parts r s (p .count ∙ sym (q .count)) (one-ending (r .ending) (s .ending) (p .reply ∙ sym (q .reply)))
 
 -- `show_first`
-pub show-first-once : (old new : List ℕ) (start : ℕ) (r s : Compared) → FirstShown old new start r → FirstShown old new start s → r ≡ s
-show-first-once old new start r s p q = shown-once _ _ r s p q
+pub show-first-once : (old : List ℕ) (oldDefault : Default) (new : List ℕ) (newDefault : Default) (start : ℕ) (r s : Compared)
+    → FirstShown old oldDefault new newDefault start r → FirstShown old oldDefault new newDefault start s → r ≡ s
+show-first-once old oldDefault new newDefault start r s p q = shown-once _ _ r s p q
 
 -- `show_lists`
-pub show-lists-once : (old : List ℕ) (i : ℕ) (new : List ℕ) (j : ℕ) (start : ℕ) (r s : Compared)
-    → ListsShown old i new j start r → ListsShown old i new j start s → r ≡ s
-show-lists-once old i new j start r s p q = shown-once _ _ r s p q
+pub show-lists-once : (old : List ℕ) (i : ℕ) (oldDefault : Default) (new : List ℕ) (j : ℕ) (newDefault : Default) (start : ℕ) (r s : Compared)
+    → ListsShown old i oldDefault new j newDefault start r → ListsShown old i oldDefault new j newDefault start s → r ≡ s
+show-lists-once old i oldDefault new j newDefault start r s p q = shown-once _ _ r s p q
 
 -- `show_files`: one comparison for the bytes that were read.
 pub show-files-once : (old′ new′ : List ℕ) (r s : FilesCompared) → r .old ≡ s .old → r .new ≡ s .new
     → FilesShown old′ new′ r → FilesShown old′ new′ s → r .compared ≡ s .compared
 show-files-once old′ new′ r s a b p q =
-    show-first-once (take (s .old) old′) (take (s .new) new′) 0 (r .compared) (s .compared) moved (q .shown)
+    show-first-once (take (s .old) old′) Default.Absent (take (s .new) new′) Default.Absent 0 (r .compared) (s .compared) moved (q .shown)
   where
-    moved : FirstShown (take (s .old) old′) (take (s .new) new′) 0 (r .compared)
+    moved : FirstShown (take (s .old) old′) Default.Absent (take (s .new) new′) Default.Absent 0 (r .compared)
     moved = rw (← a, ← b) (p .shown)

@@ -5,12 +5,14 @@ use mathlib.Core.List.{List, []}
 use lib.ListN.{length, take}
 use Rattle.words.specs.Slices.{halvesOf}
 use Rattle.rules.specs.Replies.{Reply, Gives, _then_, unlessRefused}
+use Rattle.compare_check.specs.declared.Default.{Default}
+use Rattle.compare_check.specs.Outcomes.{outcome}
 use Rattle.compare.specs.declared.Compared.{Compared}
 use Rattle.compare.specs.Runs.{Run, differences, portion, ending}
 use Rattle.compare.specs.Calls.{endingReply}
 use Rattle.image_form.specs.Images.{widthIn}
 use Rattle.image.specs.Places.{listWith}
-use Rattle.image_compare.specs.Comparing.{firstRules, compareFirstCheck, compareListsCheck}
+use Rattle.image_compare.specs.Comparing.{firstRules, firstOutcomesCheck, listOutcomesCheck}
 use Rattle.run_lines.specs.declared.FilesCompared.{FilesCompared}
 
 -- So many lines of runs at most.
@@ -26,21 +28,21 @@ pub record Shown (check : Reply) (rs : List Run) (r : Compared) : Type 0 where
   pub reply : endingReply (r .ending) ≡ (check then Gives (halvesOf (ending room rs)))
   pub count : r .count ≡ length (unlessRefused check (portion room rs) [])
 
--- The first lists of two images, from a header on.
-abbrev pub FirstShown : (old new : List ℕ) → (start : ℕ) → Compared → Type 0
-FirstShown old new start r =
-    Shown (compareFirstCheck old new start numbers numbers room room)
-    (differences (widthIn old) (firstRules old) (firstRules new) start) r
+-- The first lists of two images, each with its default, from a header on.
+abbrev pub FirstShown : (old : List ℕ) → (oldDefault : Default) → (new : List ℕ) → (newDefault : Default) → (start : ℕ) → Compared → Type 0
+FirstShown old oldDefault new newDefault start r =
+    Shown (firstOutcomesCheck old oldDefault new newDefault start numbers numbers room room)
+    (differences (widthIn old) (outcome oldDefault (firstRules old)) (outcome newDefault (firstRules new)) start) r
 
--- Two lists by their ids.
-abbrev pub ListsShown : (old : List ℕ) → (oldId : ℕ) → (new : List ℕ) → (newId : ℕ) → (start : ℕ) → Compared → Type 0
-ListsShown old i new j start r =
-    Shown (compareListsCheck old i new j start numbers numbers room room)
-    (differences (widthIn old) (listWith old i) (listWith new j) start) r
+-- Two lists by their ids, likewise.
+abbrev pub ListsShown : (old : List ℕ) → (oldId : ℕ) → (oldDefault : Default) → (new : List ℕ) → (newId : ℕ) → (newDefault : Default) → (start : ℕ) → Compared → Type 0
+ListsShown old i oldDefault new j newDefault start r =
+    Shown (listOutcomesCheck old i oldDefault new j newDefault start numbers numbers room room)
+    (differences (widthIn old) (outcome oldDefault (listWith old i)) (outcome newDefault (listWith new j)) start) r
 
--- The first lists of two files, of which no contract can say what they hold: what was read stands at the starts of the two slices
--- afterwards, the counts say how much that is, and the comparison is that of these bytes.
+-- The first lists of two files without defaults. No contract can say what files hold: what was read stands at the starts of the two
+-- slices afterwards, the counts say how much that is, and the comparison is that of these bytes.
 pub record FilesShown (old′ new′ : List ℕ) (r : FilesCompared) : Type 0 where
   pub olds : r .old ≤ length old′
   pub news : r .new ≤ length new′
-  pub shown : FirstShown (take (r .old) old′) (take (r .new) new′) 0 (r .compared)
+  pub shown : FirstShown (take (r .old) old′) Default.Absent (take (r .new) new′) Default.Absent 0 (r .compared)

@@ -7,6 +7,7 @@ use crate::FilesCompared;
 use crate::lines;
 use compare::Compared;
 use compare::Ending;
+use compare_check::Default;
 use rules::Wire;
 
 // Room for so many runs.
@@ -36,17 +37,25 @@ fn show(
     Compared { count, ending: end }
 }
 
-// The lines of the comparison of the first lists of two images, from a header on.
-pub fn show_first(old: &[u8], new: &[u8], start: Wire) -> Compared
-    ensures { λ r. ⌜ FirstShown (now (old .entry)) (now (new .entry)) (num (start .0)) r ⌝ }
+// The lines of the comparison of the first lists of two images, each with its default, from a header on.
+pub fn show_first(
+    old: &[u8],
+    old_default: Default,
+    new: &[u8],
+    new_default: Default,
+    start: Wire,
+) -> Compared
+    ensures { λ r. ⌜ FirstShown (now (old .entry)) «old_default» (now (new .entry)) «new_default» (num (start .0)) r ⌝ }
 {
     let mut first = [0u64; NUMBERS];
     let mut last = [0u64; NUMBERS];
     let mut old_answer = [0u16; ROOM];
     let mut new_answer = [0u16; ROOM];
-    let c = image_compare::compare_first(
+    let c = image_compare::compare_first_outcomes(
         old,
+        old_default,
         new,
+        new_default,
         start,
         &mut first,
         &mut last,
@@ -56,19 +65,30 @@ pub fn show_first(old: &[u8], new: &[u8], start: Wire) -> Compared
     show(old, &first, &last, &old_answer, &new_answer, c)
 }
 
-// The lines of the comparison of the old image's list `old_id` with the new image's list `new_id`, from a header on.
-pub fn show_lists(old: &[u8], old_id: u16, new: &[u8], new_id: u16, start: Wire) -> Compared
-    ensures { λ r. ⌜ ListsShown (now (old .entry)) «old_id» (now (new .entry)) «new_id» (num (start .0)) r ⌝ }
+// The lines of the comparison of the old image's list `old_id` with the new image's list `new_id`, each with its default, from a header
+// on.
+pub fn show_lists(
+    old: &[u8],
+    old_id: u16,
+    old_default: Default,
+    new: &[u8],
+    new_id: u16,
+    new_default: Default,
+    start: Wire,
+) -> Compared
+    ensures { λ r. ⌜ ListsShown (now (old .entry)) «old_id» «old_default» (now (new .entry)) «new_id» «new_default» (num (start .0)) r ⌝ }
 {
     let mut first = [0u64; NUMBERS];
     let mut last = [0u64; NUMBERS];
     let mut old_answer = [0u16; ROOM];
     let mut new_answer = [0u16; ROOM];
-    let c = image_compare::compare_lists(
+    let c = image_compare::compare_list_outcomes(
         old,
         old_id,
+        old_default,
         new,
         new_id,
+        new_default,
         start,
         &mut first,
         &mut last,
@@ -91,14 +111,20 @@ fn load(path: &[u8], bytes: &mut [u8]) -> usize
     n
 }
 
-// The lines of the comparison of the first lists of two files, which are read into the two slices. A slice needs room for a byte more than
-// the largest image: then a larger file is seen to be too large.
+// The lines of the comparison of the first lists of two files, without defaults. The files are read into the two slices. A slice needs
+// room for a byte more than the largest image: then a larger file is seen to be too large.
 pub fn show_files(old_path: &[u8], new_path: &[u8], old: &mut [u8], new: &mut [u8]) -> FilesCompared
     ensures { λ r. ⌜ FilesShown (now (old .exit)) (now (new .exit)) r ⌝ }
 {
     let m = load(old_path, old);
     let n = load(new_path, new);
-    let compared = show_first(&old[..m], &new[..n], Wire(words::wide(0)));
+    let compared = show_first(
+        &old[..m],
+        Default::Absent,
+        &new[..n],
+        Default::Absent,
+        Wire(words::wide(0)),
+    );
     FilesCompared {
         old: m,
         new: n,

@@ -1,5 +1,5 @@
--- The starred examples of document 01 ("Tried by hand"), and lookups in lists of which several rules match: one table, and one proof
--- of all its rows by computing both sides.
+-- The starred examples of document 01 ("Tried by hand"), lookups in lists of which several rules match, and comparisons with defaults: one
+-- table, and one proof of all its rows by computing both sides.
 use Prim.Native.Nat.{ℕ, _*_}
 use mathlib.Core.Path.{_≡_, refl, _∙_}
 use mathlib.Core.List.{List, [], _∷_}
@@ -7,7 +7,7 @@ use lib.ListN.{length}
 use Rattle.words.specs.Halves.{num, halves}
 use Rattle.words.specs.Slices.{wordsOf, halvesOf}
 use Rattle.rules.specs.Rule.{Rule}
-use Rattle.rules.specs.Rules.{rule, matches, first, position, noMatch, covers, crosses, stars, mergeable, merged}
+use Rattle.rules.specs.Rules.{rule, matches, answer, first, position, noMatch, covers, crosses, stars, mergeable, merged}
 use Rattle.rules.specs.Slices.{zipped, rulesOf, caresOf, valuesOf, decisionsOf}
 use Rattle.rules.specs.Replies.{Reply, Gives, Refuses, passed, _then_}
 use Rattle.rules.specs.Checks.{widthCheck, lengthsCheck, sizeCheck, patternFits, ruleCheck, rulesCheck, listCheck, headerCheck, roomCheck}
@@ -18,7 +18,9 @@ use Rattle.weaving.specs.Runs.{cut, runSizes}
 use Rattle.weaving.specs.Weave.{weave, dropped, merges}
 use Rattle.weaving.specs.Calls.{runsReply, weaveReply}
 use Rattle.compare.specs.Runs.{Run, run, runsFrom as runsOf, runsTo, differences, portion, ending}
-use Rattle.compare.specs.Calls.{compareCheck, portionCheck, resultsCheck}
+use Rattle.compare_check.specs.declared.Default.{Default}
+use Rattle.compare_check.specs.Outcomes.{outcome}
+use Rattle.compare_check.specs.Checks.{compareCheck, portionCheck, resultsCheck, defaultCheck, outcomesCheck}
 
 -- ---- what a row says
 
@@ -44,13 +46,31 @@ compareChecks w old new start room =
 -- All runs of differences of these rules.
 abbrev allRuns : (w : ℕ) → (old new : List Rule) → (start : ℕ) → List Run
 allRuns w old new start =
-    differences w (rulesOf (caresOf old) (valuesOf old) (decisionsOf old)) (rulesOf (caresOf new) (valuesOf new) (decisionsOf new)) start
+    differences w (answer (rulesOf (caresOf old) (valuesOf old) (decisionsOf old))) (answer (rulesOf (caresOf new) (valuesOf new) (decisionsOf new))) start
 
 -- Comparing these rules: the call is not refused, it lists these runs, and it ends with this header, or with none where it finished.
 pub record Compares (w : ℕ) (old new : List Rule) (start room : ℕ) (listed : List Run) (next : List ℕ) : Type 0 where
   pub fine : compareChecks w old new start room ≡ passed
   pub list : portion room (allRuns w old new start) ≡ listed
   pub last : ending room (allRuns w old new start) ≡ next
+
+-- The checks of a comparison of these rules, each side with its default, and all runs of their outcomes.
+abbrev outcomeChecks : (w : ℕ) → (old : List Rule) → (oldDefault : Default) → (new : List Rule) → (newDefault : Default) → (start room : ℕ) → Reply
+outcomeChecks w old oldDefault new newDefault start room =
+    outcomesCheck w (caresOf old) (valuesOf old) (decisionsOf old) oldDefault (caresOf new) (valuesOf new) (decisionsOf new) newDefault
+    start (room * 2) (room * 2) room room
+
+abbrev outcomeRuns : (w : ℕ) → (old : List Rule) → (oldDefault : Default) → (new : List Rule) → (newDefault : Default) → (start : ℕ) → List Run
+outcomeRuns w old oldDefault new newDefault start =
+    differences w (outcome oldDefault (rulesOf (caresOf old) (valuesOf old) (decisionsOf old)))
+    (outcome newDefault (rulesOf (caresOf new) (valuesOf new) (decisionsOf new))) start
+
+-- Comparing the outcomes of these rules: likewise.
+pub record ComparesOutcomes (w : ℕ) (old : List Rule) (oldDefault : Default) (new : List Rule) (newDefault : Default) (start room : ℕ)
+    (listed : List Run) (next : List ℕ) : Type 0 where
+  pub fine : outcomeChecks w old oldDefault new newDefault start room ≡ passed
+  pub list : portion room (outcomeRuns w old oldDefault new newDefault start) ≡ listed
+  pub last : ending room (outcomeRuns w old oldDefault new newDefault start) ≡ next
 
 -- ---- the table
 
@@ -107,10 +127,20 @@ pub record Table : Type 0 where
   pub start-eight : compareChecks 3 older newer 8 1 ≡ Refuses 6 0 0
   -- width 2, `00`→1, `01`→1 against the empty list: one run, from 0 to 1
   pub one-run : Compares 2 (rule 3 0 1 ∷ rule 3 1 1 ∷ []) [] 0 1 (run 0 1 1 noMatch ∷ []) []
+  -- the width 3 pair again, with no default: the same three runs; with 1 on both sides: each side decides 1 everywhere, and no run is left;
+  -- with 1 on the new side: one run, from 4 to 7; with 1 on the old side: the runs where the new list misses
+  pub no-defaults : ComparesOutcomes 3 older Default.Absent newer Default.Absent 0 3 (run 2 3 1 noMatch ∷ run 5 5 noMatch 1 ∷ run 7 7 noMatch 1 ∷ []) []
+  pub both-default : ComparesOutcomes 3 older (Default.Decision 1) newer (Default.Decision 1) 0 3 [] []
+  pub new-default : ComparesOutcomes 3 older Default.Absent newer (Default.Decision 1) 0 3 (run 4 7 noMatch 1 ∷ []) []
+  pub old-default : ComparesOutcomes 3 older (Default.Decision 1) newer Default.Absent 0 3 (run 2 4 1 noMatch ∷ run 6 6 1 noMatch ∷ []) []
+  pub old-default-one : ComparesOutcomes 3 older (Default.Decision 1) newer Default.Absent 0 1 (run 2 4 1 noMatch ∷ []) (6 ∷ [])
+  -- a default of 65,535 is refused 5 with its side, the old one first, and before the start's 6
+  pub bad-defaults : outcomeChecks 3 older (Default.Decision 65535) newer (Default.Decision 65535) 8 0 ≡ Refuses 5 1 0
+  pub bad-new-default : outcomeChecks 3 older Default.Absent newer (Default.Decision 65535) 8 0 ≡ Refuses 5 2 0
 
 -- Every row, by computing.
 pub table : Table
-unfolding runsReply weaveReply weave dropped merges cut crosses covers stars mergeable merged checkPrefix crossCheck crossesAmong crossesWith checkList lookedUp widthCheck listCheck lengthsCheck sizeCheck rulesCheck ruleCheck patternFits headerCheck roomCheck zipped wordsOf halvesOf num halves compareCheck portionCheck resultsCheck runsTo runsOf first position matches
+unfolding runsReply weaveReply weave dropped merges cut crosses covers stars mergeable merged checkPrefix crossCheck crossesAmong crossesWith checkList lookedUp widthCheck listCheck lengthsCheck sizeCheck rulesCheck ruleCheck patternFits headerCheck roomCheck zipped wordsOf halvesOf num halves compareCheck outcomesCheck defaultCheck portionCheck resultsCheck runsTo runsOf first position matches
 table = record {
   five-rules = record { reply = refl; list = refl };
   crossing-runs = record { reply = refl; list = refl };
@@ -135,4 +165,11 @@ table = record {
   start-three = record { fine = refl; list = refl; last = refl };
   start-eight = refl;
   one-run = record { fine = refl; list = refl; last = refl };
+  no-defaults = record { fine = refl; list = refl; last = refl };
+  both-default = record { fine = refl; list = refl; last = refl };
+  new-default = record { fine = refl; list = refl; last = refl };
+  old-default = record { fine = refl; list = refl; last = refl };
+  old-default-one = record { fine = refl; list = refl; last = refl };
+  bad-defaults = refl;
+  bad-new-default = refl;
 }

@@ -21,12 +21,14 @@ pub(crate) fn on_new_file(at: usize, old: &[u8], request: Request) {
 // The lists with the id that was named, or the first lists where none was.
 fn compare(old: &[u8], new: &[u8], request: Request) {
     let command = request.command;
+    let a = request.old_default;
+    let b = request.new_default;
     if let Command::Compare = command {
-        refused(run_lines::show_first(old, new, request.header));
+        refused(run_lines::show_first(old, a, new, b, request.header));
     } else if lists::has(old, request.id, b" in the old image\n") {
         if lists::has(new, request.id, b" in the new image\n") {
             let id = lists::short(request.id);
-            refused(run_lines::show_lists(old, id, new, id, request.header));
+            refused(run_lines::show_lists(old, id, a, new, id, b, request.header));
         }
     }
 }

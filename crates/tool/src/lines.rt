@@ -86,6 +86,6 @@ pub(crate) fn trouble(what: &[u8], word: &[u8]) {
 
 pub(crate) fn usage() {
     say(
-        b"usage:\n  ./myrhjord check FILE\n  ./myrhjord show FILE\n  ./myrhjord lookup FILE ID HEADER\n  ./myrhjord runs FILE ID\n  ./myrhjord weave FILE OUT\n  ./myrhjord compare OLD NEW [ID [START]]\nNumbers are decimal, or hexadecimal after 0x.\n",
+        b"usage:\n  ./myrhjord check FILE\n  ./myrhjord show FILE\n  ./myrhjord lookup FILE ID HEADER\n  ./myrhjord runs FILE ID\n  ./myrhjord weave FILE OUT\n  ./myrhjord compare OLD NEW [ID [START]] [defaults A B]\nNumbers are decimal, or hexadecimal after 0x.\nA and B are what the old and the new list decide where no rule matches: a number, or none.\n",
     );
 }

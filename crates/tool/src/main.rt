@@ -14,7 +14,7 @@ mod squeezing;
 mod trial;
 
 fn main() {
-    if trial::is_word(1, b"trial") {
+    if places::is_word(1, b"trial") {
         trial::all();
     } else {
         commands::run(0, os::arg_count());

@@ -2,16 +2,10 @@
 // after it what it gives. A command line starts with the tool's name.
 use crate::commands;
 use crate::lines;
-
-// Whether argument i is this word.
-pub(crate) fn is_word(i: usize, word: &[u8]) -> bool {
-    let mut space = io::buffer();
-    let n = os::arg(i, &mut space);
-    check::same(&space[..n], word)
-}
+use crate::places;
 
 fn is_name(i: usize) -> bool {
-    is_word(i, b"./myrhjord")
+    places::is_word(i, b"./myrhjord")
 }
 
 fn show_name() {

@@ -1,5 +1,4 @@
 use borrow.Author.Needs.{needs}
-use borrow.Author.Needs.{needs}
 use Rattle.cases.proofs.compare_calls.compare_lists.Statement.{statement}
 use Rattle.cases.proofs.compare_calls.compare_lists.Tie as tie
 use Rattle.cases.proofs.compare_calls.compare_lists.Reads as reads
@@ -9,6 +8,7 @@ use Rattle.cases.proofs.show.runs.Reads as runs-reads
 use Rattle.cases.proofs.slices.numbers_mut.Reads as numbers-mut-reads
 use Rattle.cases.proofs.slices.shorts_mut.Reads as shorts-mut-reads
 use Rattle.compare.proofs.compare.Reads as compare-reads
+use Rattle.compare.proofs.compare_outcomes.Reads as compare-outcomes-reads
 
 slice-aggregate-numbers-mut : tie.Need-slice-aggregate-numbers-mut
 slice-aggregate-numbers-mut c = search needs
@@ -23,19 +23,22 @@ numbers-mut-requires-2 : tie.Need-numbers-mut-requires-2
 numbers-mut-requires-2 c κs = search needs
 
 slice-aggregate-shorts-mut : tie.Need-slice-aggregate-shorts-mut
-slice-aggregate-shorts-mut c = search needs
+slice-aggregate-shorts-mut c = search (needs, c .before .before .before .before .before .before .before .before .before .before .before .before .before .before .before .before .good .1 .1 .1 .1 .1 .1 .1 .1 .1 .1 .1 .0)
 
 shorts-mut-requires : tie.Need-shorts-mut-requires
 shorts-mut-requires c κs = search needs
 
 slice-aggregate-shorts-mut-2 : tie.Need-slice-aggregate-shorts-mut-2
-slice-aggregate-shorts-mut-2 c = search (needs, c .before .before .before .before .before .before .before .before .before .before .before .before .before .before .before .before .before .before .good)
+slice-aggregate-shorts-mut-2 c = search (needs, c .before .before .before .before .before .before .before .before .before .before .before .before .before .before .before .before .before .before .good .1 .1 .1 .1 .1 .1 .1 .1 .1 .1 .1 .0)
 
 shorts-mut-requires-2 : tie.Need-shorts-mut-requires-2
 shorts-mut-requires-2 c κs = search needs
 
 compare-requires : tie.Need-compare-requires
 compare-requires c κs = search needs
+
+compare-outcomes-requires : tie.Need-compare-outcomes-requires
+compare-outcomes-requires c κs = search needs
 
 compared-requires : tie.Need-compared-requires
 compared-requires c κs = search needs
@@ -59,6 +62,7 @@ compare-lists-spec =
     slice-aggregate-shorts-mut-2
     shorts-mut-requires-2
     compare-requires
+    compare-outcomes-requires
     compared-requires
     runs-requires
     returns)

@@ -1,20 +1,13 @@
-use Rattle.image_compare.proofs.CompareLaws.{first-compared}
+use Rattle.image_compare.proofs.CompareLaws.{first-without}
 use borrow.Author.Needs.{needs}
 use Rattle.image_compare.proofs.lists.compare_first.Statement.{statement}
 use Rattle.image_compare.proofs.lists.compare_first.Tie as tie
 use Rattle.image_compare.proofs.lists.compare_first.Reads as reads
 use Rattle.image_compare.proofs.lists.compare_first.Lts as lts
-use Rattle.image_compare.proofs.lists.compare_lists.Reads as compare-lists-reads
-use Rattle.image_compare.proofs.lists.first_id.Reads as first-id-reads
+use Rattle.image_compare.proofs.lists.compare_first_outcomes.Reads as compare-first-outcomes-reads
 
-first-id-requires : tie.Need-first-id-requires
-first-id-requires c κs = search needs
-
-first-id-requires-2 : tie.Need-first-id-requires-2
-first-id-requires-2 c κs = search needs
-
-compare-lists-requires : tie.Need-compare-lists-requires
-compare-lists-requires c κs = search needs
+compare-first-outcomes-requires : tie.Need-compare-first-outcomes-requires
+compare-first-outcomes-requires c κs = search needs
 
 same-length : tie.Need-same-length
 same-length c = search needs
@@ -29,15 +22,13 @@ same-length-4 : tie.Need-same-length-4
 same-length-4 c = search needs
 
 returns : tie.Need-returns
-returns c = first-compared _ _ _ _ _ _ _ _ _ _ _ _ _ _ (c .before .before .before .before .before .before .before .before .before .before .before .before .before .before .first-id .ensures) (c .before .before .before .before .before .before .before .before .before .before .before .before .before .first-id2 .ensures) (c .before .before .before .before .before .before .before .before .compare-lists .ensures)
+returns c = first-without _ _ _ _ _ _ _ _ _ _ _ _ .1 (c .before .before .before .before .before .before .before .before .compare-first-outcomes .ensures)
 
 pub compare-first-spec : {M : Type 1} → statement M
 compare-first-spec =
     tie.close
     (tie.spec
-    first-id-requires
-    first-id-requires-2
-    compare-lists-requires
+    compare-first-outcomes-requires
     same-length
     same-length-2
     same-length-3

@@ -43,7 +43,7 @@ returns c =
     record {
       olds = search needs;
       news = search needs;
-      shown = from-zero _ _ _ _ (c .before .wide .ensures) (c .show-first .ensures);
+      shown = from-zero _ _ _ _ _ _ (c .before .wide .ensures) (c .show-first .ensures);
     }
 
 pub show-files-spec : {M : Type 1} → statement M

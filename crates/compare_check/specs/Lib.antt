@@ -1,0 +1,3 @@
+-- What the contracts of the two sides of a comparison cite.
+pub mod Outcomes
+pub mod Checks
