@@ -8,12 +8,12 @@ use crate::source::answer_at;
 use crate::source::named;
 use crate::weaving_calls;
 use image::Listed;
-use image::Outcome;
+use image::NumberAnswer;
 
-fn show_outcome(w: &[u8], to: usize, o: Outcome) -> usize {
+fn show_number_answer(w: &[u8], to: usize, o: NumberAnswer) -> usize {
     match o {
-        Outcome::Number(n) => show::number(w, to, n as u64),
-        Outcome::Refused(x) => show::refusal(w, to, x),
+        NumberAnswer::Number(n) => show::number(w, to, n as u64),
+        NumberAnswer::Refused(x) => show::refusal(w, to, x),
     }
 }
 
@@ -45,9 +45,9 @@ fn with_image(call: usize, image: &[u8], s: &[u8], from: usize, w: &[u8], to: us
     let at = answer_at(s, n.at, to);
     match call {
         names::CHECK => show::verdict(w, at, image::check(image)),
-        names::WIDTH => show_outcome(w, at, image::width(image)),
-        names::FORMAT => show_outcome(w, at, image::format(image)),
-        names::COUNT => show_outcome(w, at, image::count(image)),
+        names::WIDTH => show_number_answer(w, at, image::width(image)),
+        names::FORMAT => show_number_answer(w, at, image::format(image)),
+        names::COUNT => show_number_answer(w, at, image::count(image)),
         names::ENTRY => show_listed(w, at, image::entry(image, n.value as usize)),
         names::BODY => show::bytes(w, at, image::body(image, id)),
         names::BODY_REFUSAL => show::verdict(w, at, image::body_refusal(image, id)),
@@ -60,7 +60,7 @@ fn with_image(call: usize, image: &[u8], s: &[u8], from: usize, w: &[u8], to: us
 // The width as an image says it, for patterns; 0 where it says none.
 fn width_of(image: &[u8]) -> u32 {
     let w = image::width(image);
-    if let Outcome::Number(n) = w {
+    if let NumberAnswer::Number(n) = w {
         if n <= 128 {
             return n as u32;
         }
@@ -84,7 +84,7 @@ fn read(image: &[u8], id: u16, s: &[u8], from: usize, w: &[u8], to: usize) -> us
     l.care = care;
     l.value = value;
     l.decision = decision;
-    let answer = show_outcome(w, answer_at(s, l.at, to), o);
+    let answer = show_number_answer(w, answer_at(s, l.at, to), o);
     show::list(w, show::phrase(w, answer, show::INTO), width_of(image), l)
 }
 
@@ -128,7 +128,7 @@ fn weave(image: &[u8], s: &[u8], from: usize, w: &[u8], to: usize) -> usize {
 }
 
 // The answer of a call that makes an image, and the bytes that were lent for it.
-fn show_image(w: &[u8], to: usize, o: Outcome, bytes: &[u8]) -> usize {
-    let into = show::phrase(w, show_outcome(w, to, o), show::INTO);
+fn show_image(w: &[u8], to: usize, o: NumberAnswer, bytes: &[u8]) -> usize {
+    let into = show::phrase(w, show_number_answer(w, to, o), show::INTO);
     show::bytes(w, into, bytes)
 }

@@ -19,12 +19,12 @@ use Rattle.rules.specs.Calls.{checkList}
 use Rattle.rules.proofs.ReplyLaws.{then-next, then-second, gives-refuses, one-value}
 use Rattle.rules.proofs.CheckLaws.{sound-list, lengths-yes, room-yes, width-inside}
 use Rattle.rules.proofs.SliceLaws.{rules-length, rules-columns}
-use Rattle.image.specs.declared.Outcome.{Outcome}
+use Rattle.image.specs.declared.NumberAnswer.{NumberAnswer}
 use Rattle.image_form.specs.Images.{widthIn}
 use Rattle.image_check.specs.Checks.{imageCheck}
 use Rattle.image.specs.Places.{placeOf, listWith}
 use Rattle.image.specs.Calls.{idCheck, readReply, ReadOut, filled}
-use Rattle.image.specs.Replies.{outcomeReply}
+use Rattle.image.specs.Replies.{numberReply}
 use Rattle.image_check.proofs.BareLaws.{Bare, bare-first, bare-then, bare-need, bare-image}
 use Rattle.image.proofs.PassedLaws.{length-with, list-facts}
 
@@ -117,14 +117,14 @@ room-enough b id c v d p q s =
     then-next (lengthsCheck c v d) _ (lengths-yes c v d (p ∙ sym q) (omega arith))
     ∙ then-next (roomCheck (placeOf b id .count) (length d)) _ (room-yes _ _ (omega (arith, list-facts b id (id-image b id e) .few))))
 
-module _ (b : List ℕ) (id : ℕ) (c v d : List ℕ) (x : Outcome) (c′ v′ d′ : List ℕ) (o : ReadOut b id c v d x c′ v′ d′) where
-  pub read-refused : length c ≡ 2048 → length v ≡ 2048 → length d ≡ 1024 → {y : Refusal} → x ≡ Outcome.Refused y → idCheck b id ≡ refusalReply y
+module _ (b : List ℕ) (id : ℕ) (c v d : List ℕ) (x : NumberAnswer) (c′ v′ d′ : List ℕ) (o : ReadOut b id c v d x c′ v′ d′) where
+  pub read-refused : length c ≡ 2048 → length v ≡ 2048 → length d ≡ 1024 → {y : Refusal} → x ≡ NumberAnswer.Refused y → idCheck b id ≡ refusalReply y
   read-refused p q s {y} e =
-      gives-stop (idCheck b id) _ y (sym (room-enough b id c v d p q s) ∙ sym (o .answer) ∙ ap outcomeReply e)
+      gives-stop (idCheck b id) _ y (sym (room-enough b id c v d p q s) ∙ sym (o .answer) ∙ ap numberReply e)
 
-  module _ (n : ℕ) (e : x ≡ Outcome.Number n) where
+  module _ (n : ℕ) (e : x ≡ NumberAnswer.Number n) where
     told : readReply b id c v d ≡ Gives (n ∷ [])
-    told = sym (o .answer) ∙ ap outcomeReply e
+    told = sym (o .answer) ∙ ap numberReply e
 
     pub read-passed : idCheck b id ≡ passed
     unfolding readReply

@@ -5,18 +5,18 @@ use Prim.Native.Nat.{ℕ}
 use Rattle.rules.specs.declared.Verdict.{Verdict}
 use Rattle.rules.specs.Replies.{Gives, verdictReply}
 use Rattle.rules.proofs.ReplyLaws.{gives-refuses, one-refusal, one-verdict, one-value}
-use Rattle.image.specs.declared.Outcome.{Outcome}
+use Rattle.image.specs.declared.NumberAnswer.{NumberAnswer}
 use Rattle.image.specs.declared.Listed.{Listed}
-use Rattle.image.specs.Replies.{outcomeReply, listedReply}
+use Rattle.image.specs.Replies.{numberReply, listedReply}
 use Rattle.image.specs.Calls.{formatReply, widthReply, countReply, entryReply, idCheck, bodyOf, ReadOut}
 
 -- ---- one answer for each reply
 
-pub one-outcome : (x y : Outcome) → outcomeReply x ≡ outcomeReply y → x ≡ y
-one-outcome (Outcome.Number m) (Outcome.Number n) e = ap Outcome.Number (one-value e)
-one-outcome (Outcome.Number m) (Outcome.Refused b) e = absurd (gives-refuses e)
-one-outcome (Outcome.Refused a) (Outcome.Number n) e = absurd (gives-refuses (sym e))
-one-outcome (Outcome.Refused a) (Outcome.Refused b) e = ap Outcome.Refused (one-refusal a b e)
+pub one-number-answer : (x y : NumberAnswer) → numberReply x ≡ numberReply y → x ≡ y
+one-number-answer (NumberAnswer.Number m) (NumberAnswer.Number n) e = ap NumberAnswer.Number (one-value e)
+one-number-answer (NumberAnswer.Number m) (NumberAnswer.Refused b) e = absurd (gives-refuses e)
+one-number-answer (NumberAnswer.Refused a) (NumberAnswer.Number n) e = absurd (gives-refuses (sym e))
+one-number-answer (NumberAnswer.Refused a) (NumberAnswer.Refused b) e = ap NumberAnswer.Refused (one-refusal a b e)
 
 two-first : {i j m n : ℕ} → Gives (i ∷ m ∷ []) ≡ Gives (j ∷ n ∷ []) → i ≡ j
 two-first e = cc
@@ -34,16 +34,16 @@ one-listed (Listed.Refused a) (Listed.Refused b) e = ap Listed.Refused (one-refu
 
 module _ (b : List ℕ) where
   -- format
-  pub format-once : (x y : Outcome) → outcomeReply x ≡ formatReply b → outcomeReply y ≡ formatReply b → x ≡ y
-  format-once x y p q = one-outcome x y (p ∙ sym q)
+  pub format-once : (x y : NumberAnswer) → numberReply x ≡ formatReply b → numberReply y ≡ formatReply b → x ≡ y
+  format-once x y p q = one-number-answer x y (p ∙ sym q)
 
   -- width
-  pub width-once : (x y : Outcome) → outcomeReply x ≡ widthReply b → outcomeReply y ≡ widthReply b → x ≡ y
-  width-once x y p q = one-outcome x y (p ∙ sym q)
+  pub width-once : (x y : NumberAnswer) → numberReply x ≡ widthReply b → numberReply y ≡ widthReply b → x ≡ y
+  width-once x y p q = one-number-answer x y (p ∙ sym q)
 
   -- count
-  pub count-once : (x y : Outcome) → outcomeReply x ≡ countReply b → outcomeReply y ≡ countReply b → x ≡ y
-  count-once x y p q = one-outcome x y (p ∙ sym q)
+  pub count-once : (x y : NumberAnswer) → numberReply x ≡ countReply b → numberReply y ≡ countReply b → x ≡ y
+  count-once x y p q = one-number-answer x y (p ∙ sym q)
 
   -- entry
   pub entry-once : (k : ℕ) (x y : Listed) → listedReply x ≡ entryReply b k → listedReply y ≡ entryReply b k → x ≡ y
@@ -58,7 +58,7 @@ module _ (b : List ℕ) where
   body-once id x y p q = p ∙ sym q
 
   -- read
-  pub read-once : (id : ℕ) (cs vs ds : List ℕ) (x y : Outcome) (cs₁ vs₁ ds₁ cs₂ vs₂ ds₂ : List ℕ)
+  pub read-once : (id : ℕ) (cs vs ds : List ℕ) (x y : NumberAnswer) (cs₁ vs₁ ds₁ cs₂ vs₂ ds₂ : List ℕ)
       → ReadOut b id cs vs ds x cs₁ vs₁ ds₁ → ReadOut b id cs vs ds y cs₂ vs₂ ds₂ → (x ≡ y) × (cs₁ ≡ cs₂) × (vs₁ ≡ vs₂) × (ds₁ ≡ ds₂)
   read-once id cs vs ds x y cs₁ vs₁ ds₁ cs₂ vs₂ ds₂ p q =
-      (one-outcome x y (p .answer ∙ sym (q .answer)), p .cares ∙ sym (q .cares), p .values ∙ sym (q .values), p .decisions ∙ sym (q .decisions))
+      (one-number-answer x y (p .answer ∙ sym (q .answer)), p .cares ∙ sym (q .cares), p .values ∙ sym (q .values), p .decisions ∙ sym (q .decisions))

@@ -14,7 +14,7 @@ pub use reading::read;
 use rules::Refusal;
 
 // The answer to a call that gives one number.
-pub enum Outcome {
+pub enum NumberAnswer {
     Number(usize),
     Refused(Refusal),
 }

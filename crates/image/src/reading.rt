@@ -7,9 +7,9 @@ ghost use Rattle.rules.specs.Slices.{Lent};
 ghost use Rattle.image_form.specs.Formats.{ruleSize};
 ghost use Rattle.image_form.specs.Images.{rulesIn};
 ghost use Rattle.image.specs.Calls.{ReadOut};
-ghost use Rattle.image.specs.Replies.{outcomeReply};
+ghost use Rattle.image.specs.Replies.{numberReply};
 ghost use Rattle.image.specs.Filled.{Filled};
-use crate::Outcome;
+use crate::NumberAnswer;
 use crate::places::find;
 use crate::questions::body_refusal;
 use image_form::layout;
@@ -44,11 +44,11 @@ fn fill(
     }
 }
 
-// A refusal as an outcome.
-fn not_read(number: usize) -> Outcome
-    ensures { λ r. ⌜ outcomeReply r ≡ Refuses number 0 0 ⌝ }
+// A refusal as an answer of a number.
+fn not_read(number: usize) -> NumberAnswer
+    ensures { λ r. ⌜ numberReply r ≡ Refuses number 0 0 ⌝ }
 {
-    Outcome::Refused(Refusal {
+    NumberAnswer::Refused(Refusal {
         number,
         list: 0,
         rule: 0,
@@ -63,14 +63,14 @@ pub fn read(
     care: &mut [u64],
     value: &mut [u64],
     decision: &mut [u16],
-) -> Outcome
+) -> NumberAnswer
     ensures { λ r. ⌜ ReadOut (now (image .entry)) id
         (now (care .entry)) (now (value .entry)) (now (decision .entry)) r
         (now (care .exit)) (now (value .exit)) (now (decision .exit)) ⌝ }
 {
     let v = body_refusal(image, id);
     if let Verdict::Refused(x) = v {
-        return Outcome::Refused(x);
+        return NumberAnswer::Refused(x);
     }
     if care.len() != value.len() {
         return not_read(2);
@@ -85,5 +85,5 @@ pub fn read(
         return not_read(7);
     }
     fill(image[0], image, from, count, care, value, decision);
-    Outcome::Number(count)
+    NumberAnswer::Number(count)
 }

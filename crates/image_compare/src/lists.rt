@@ -12,7 +12,7 @@ use compare::Compared;
 use compare::Ending;
 use compare::compare_outcomes;
 use compare_check::Default;
-use image::Outcome;
+use image::NumberAnswer;
 use image::read;
 use image_form::byte_at;
 use image_form::entry_in;
@@ -57,8 +57,8 @@ fn compare_with(
     let mut decisions = [0u16; 1024];
     let n = read(new, new_id, &mut cares, &mut values, &mut decisions);
     match n {
-        Outcome::Refused(x) => refused(x),
-        Outcome::Number(rules) => {
+        NumberAnswer::Refused(x) => refused(x),
+        NumberAnswer::Number(rules) => {
             let width = byte_at(old, 1);
             if width != byte_at(new, 1) {
                 return refused(Refusal {
@@ -113,8 +113,8 @@ pub fn compare_list_outcomes(
     let mut decisions = [0u16; 1024];
     let o = read(old, old_id, &mut cares, &mut values, &mut decisions);
     match o {
-        Outcome::Refused(x) => refused(x),
-        Outcome::Number(rules) => {
+        NumberAnswer::Refused(x) => refused(x),
+        NumberAnswer::Number(rules) => {
             let halves = rules * 2;
             compare_with(
                 old,

@@ -31,7 +31,7 @@ use Rattle.image_form.specs.declared.Entry.{Entry}
 use Rattle.image_form.specs.Images.{Named, formatIn, widthIn, countIn, entriesOf, listsIn, listsOf, bytesOf}
 use Rattle.image_check.specs.Checks.{imageCheck}
 use Rattle.image_check.proofs.BareLaws.{bare-first, bare-image}
-use Rattle.image.specs.declared.Outcome.{Outcome}
+use Rattle.image.specs.declared.NumberAnswer.{NumberAnswer}
 use Rattle.image.specs.Places.{placeIn, placeOf, listWith}
 use Rattle.image.specs.Calls.{idCheck, filled}
 use Rattle.image.proofs.PassedLaws.{list-facts}
@@ -85,7 +85,7 @@ columns-pass b id f =
 
 -- ---- `weave_image` answered with the number n, and left out′ in the bytes that held out
 
-module _ (bs out out′ : List ℕ) (n : ℕ) (W : ImageWoven bs out (Outcome.Number n) out′) where
+module _ (bs out out′ : List ℕ) (n : ℕ) (W : ImageWoven bs out (NumberAnswer.Number n) out′) where
   said : weaveImageReply bs out ≡ Gives (n ∷ [])
   said = sym (W .answer)
 
@@ -192,11 +192,11 @@ module _ (bs : List ℕ) (id : ℕ) (t : Tally) (T : wovenReply (Woven.Done t) �
   tally-adds-up = omega (arith, keeps, drops, joins, counts-add-up (widthIn bs) (listWith bs id))
 
   -- The entries kept are those that the woven image's list with that id has.
-  pub tally-of-woven : (out out′ : List ℕ) (n : ℕ) → ImageWoven bs out (Outcome.Number n) out′ → AreBytes bs → t .kept ≡ length (listWith (take n out′) id)
+  pub tally-of-woven : (out out′ : List ℕ) (n : ℕ) → ImageWoven bs out (NumberAnswer.Number n) out′ → AreBytes bs → t .kept ≡ length (listWith (take n out′) id)
   tally-of-woven out out′ n W b = keeps ∙ ap length (sym (woven-image-list bs out out′ n W b id))
 
 -- ---- refused
 
 -- A refused `weave_image` leaves the lent bytes as they were.
-pub refused-leaves-image : (bs out out′ : List ℕ) (x : Refusal) → ImageWoven bs out (Outcome.Refused x) out′ → out′ ≡ out
+pub refused-leaves-image : (bs out out′ : List ℕ) (x : Refusal) → ImageWoven bs out (NumberAnswer.Refused x) out′ → out′ ≡ out
 refused-leaves-image bs out out′ x W = rw (sym (W .answer)) at (W .bytes)

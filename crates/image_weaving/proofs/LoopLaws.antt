@@ -5,7 +5,7 @@ use Prim.Native.Nat.{ℕ, _≤_}
 use native.Mathlib.Omega.{arith}
 use lib.ListN.{length}
 use Rattle.rules.specs.declared.Refusal.{Refusal}
-use Rattle.image.specs.declared.Outcome.{Outcome}
+use Rattle.image.specs.declared.NumberAnswer.{NumberAnswer}
 use Rattle.image_form.specs.Images.{countIn}
 use Rattle.image_writer.specs.Writing.{sumOf, listsFrom}
 use Rattle.image_weaving.specs.Weaving.{wovenLists}
@@ -16,13 +16,13 @@ pub none-woven : (b ids ns cs vs ds : List ℕ) → ListsWoven b 0 0 ids ns cs v
 unfolding sumOf listsFrom wovenLists
 none-woven b ids ns cs vs ds = record { fits = omega arith; sums = refl; lists = refl }
 
-module _ (b : List ℕ) (k : ℕ) (r : Outcome) (ids ns cs vs ds : List ℕ) (W : WovenUpTo b k r ids ns cs vs ds) where
+module _ (b : List ℕ) (k : ℕ) (r : NumberAnswer) (ids ns cs vs ds : List ℕ) (W : WovenUpTo b k r ids ns cs vs ds) where
   -- it is not refused
-  pub up-not-refused : {x : Refusal} → r ≡ Outcome.Refused x → ⊥
-  up-not-refused e = subst (λ (o : Outcome). WovenUpTo b k o ids ns cs vs ds) e W
+  pub up-not-refused : {x : Refusal} → r ≡ NumberAnswer.Refused x → ⊥
+  up-not-refused e = subst (λ (o : NumberAnswer). WovenUpTo b k o ids ns cs vs ds) e W
 
-  pub up-woven : (n : ℕ) → r ≡ Outcome.Number n → ListsWoven b k n ids ns cs vs ds
-  up-woven n e = subst (λ (o : Outcome). WovenUpTo b k o ids ns cs vs ds) e W
+  pub up-woven : (n : ℕ) → r ≡ NumberAnswer.Number n → ListsWoven b k n ids ns cs vs ds
+  up-woven n e = subst (λ (o : NumberAnswer). WovenUpTo b k o ids ns cs vs ds) e W
 
 -- slices that are as long as before are as ready
 pub still-ready : (b ids ns cs vs ds ids′ ns′ cs′ vs′ ds′ : List ℕ) → RoomForAll b ids ns cs vs ds → length ids′ ≡ length ids → length ns′ ≡ length ns

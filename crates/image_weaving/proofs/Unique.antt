@@ -5,13 +5,13 @@ use Prim.Native.Nat.{ℕ}
 use Rattle.weaving.specs.declared.Woven.{Woven}
 use Rattle.weaving.specs.Calls.{wovenReply}
 use Rattle.weaving.proofs.Unique.{one-woven}
-use Rattle.image.specs.declared.Outcome.{Outcome}
-use Rattle.image.proofs.Unique.{one-outcome}
+use Rattle.image.specs.declared.NumberAnswer.{NumberAnswer}
+use Rattle.image.proofs.Unique.{one-number-answer}
 use Rattle.image_weaving.specs.Weaving.{ImageWoven, tallyReply}
 
 -- `weave_image`
-pub weave-image-once : (bs out : List ℕ) (x y : Outcome) (out₁ out₂ : List ℕ) → ImageWoven bs out x out₁ → ImageWoven bs out y out₂ → (x ≡ y) × (out₁ ≡ out₂)
-weave-image-once bs out x y out₁ out₂ p q = (one-outcome x y (p .answer ∙ sym (q .answer)), p .bytes ∙ sym (q .bytes))
+pub weave-image-once : (bs out : List ℕ) (x y : NumberAnswer) (out₁ out₂ : List ℕ) → ImageWoven bs out x out₁ → ImageWoven bs out y out₂ → (x ≡ y) × (out₁ ≡ out₂)
+weave-image-once bs out x y out₁ out₂ p q = (one-number-answer x y (p .answer ∙ sym (q .answer)), p .bytes ∙ sym (q .bytes))
 
 -- `tally`
 pub tally-once : (bs : List ℕ) (id : ℕ) (x y : Woven) → wovenReply x ≡ tallyReply bs id → wovenReply y ≡ tallyReply bs id → x ≡ y

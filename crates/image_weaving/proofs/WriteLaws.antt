@@ -16,7 +16,7 @@ use Rattle.rules.proofs.ReplyLaws.{then-next, then-stop, need-yes}
 use Rattle.rules.proofs.SliceLaws.{rules-length}
 use Rattle.image_form.specs.Images.{Named, formatIn, widthIn, countIn, listsOf, bytesOf}
 use Rattle.image_check.specs.Checks.{listsCheck, imageCheck}
-use Rattle.image.specs.declared.Outcome.{Outcome}
+use Rattle.image.specs.declared.NumberAnswer.{NumberAnswer}
 use Rattle.image.specs.Calls.{filled}
 use Rattle.image.proofs.BackLaws.{AreBytes, length-listsOf}
 use Rattle.image.proofs.SeekLaws.{image-facts}
@@ -41,7 +41,7 @@ pub some-bytes : (b : List ℕ) → imageCheck b ≡ passed → 4 ≤ length b
 some-bytes b f = image-facts b [] f .head .least
 
 -- the image is refused
-pub image-refused : (b out : List ℕ) (v : Verdict) {x : Refusal} → verdictReply v ≡ imageCheck b → v ≡ Verdict.Refused x → ImageWoven b out (Outcome.Refused x) out
+pub image-refused : (b out : List ℕ) (v : Verdict) {x : Refusal} → verdictReply v ≡ imageCheck b → v ≡ Verdict.Refused x → ImageWoven b out (NumberAnswer.Refused x) out
 unfolding weaveImageReply
 image-refused b out v {x} p q =
     let e : weaveImageReply b out ≡ refusalReply x = then-stop (imageCheck b) _ x (sym p ∙ ap verdictReply q) in
@@ -54,7 +54,7 @@ made-ready b ids ns cs vs ds f h i n c v d =
     record { accepted = f; bytes = all-bytes b h; ids = i; counts = n; cares = c; values = v; decisions = d }
 
 -- all lists are woven
-module _ (b : List ℕ) (r : Outcome) (ids ns cs vs ds : List ℕ) (U : WovenUpTo b (countIn b) r ids ns cs vs ds × RoomForAll b ids ns cs vs ds) (n : ℕ) (e : r ≡ Outcome.Number n) where
+module _ (b : List ℕ) (r : NumberAnswer) (ids ns cs vs ds : List ℕ) (U : WovenUpTo b (countIn b) r ids ns cs vs ds × RoomForAll b ids ns cs vs ds) (n : ℕ) (e : r ≡ NumberAnswer.Number n) where
   ready : RoomForAll b ids ns cs vs ds
   ready = U .1
 
@@ -183,7 +183,7 @@ module _ (b : List ℕ) (r : Outcome) (ids ns cs vs ds : List ℕ) (U : WovenUpT
       ∙ ap (λ (k : ℕ). roomCheck k (length out) then Gives (k ∷ [])) size-is
       ∙ sym (then-next (imageCheck b) _ (ready .accepted))
 
-  written : (out out′ : List ℕ) (o : Outcome) → Written (formatIn b) (widthIn b) is ms c v d out o out′ → ImageWoven b out o out′
+  written : (out out′ : List ℕ) (o : NumberAnswer) → Written (formatIn b) (widthIn b) is ms c v d out o out′ → ImageWoven b out o out′
   unfolding wovenBytes
   written out out′ o W =
       record {
@@ -191,6 +191,6 @@ module _ (b : List ℕ) (r : Outcome) (ids ns cs vs ds : List ℕ) (U : WovenUpT
         bytes = W .bytes ∙ (λ j. unlessRefused (reply-same out j) (filled (bytesOf (formatIn b) (widthIn b) (given-lists j)) out) out);
       }
 
-  pub all-written : (out out′ : List ℕ) (o : Outcome) (w k : ℕ) → w ≡ widthIn b → k ≡ countIn b
+  pub all-written : (out out′ : List ℕ) (o : NumberAnswer) (w k : ℕ) → w ≡ widthIn b → k ≡ countIn b
       → Written (formatIn b) w (take k ids) (take k ns) c v d out o out′ → ImageWoven b out o out′
   all-written out out′ o w k q s W = written out out′ o (rw (q, s) at W)

@@ -13,7 +13,7 @@ use Rattle.weaving.specs.Weave.{weave}
 use Rattle.weaving.specs.Calls.{wovenReply}
 use Rattle.image_form.specs.Images.{widthIn, listsOf}
 use Rattle.image_check.specs.Checks.{imageCheck}
-use Rattle.image.specs.declared.Outcome.{Outcome}
+use Rattle.image.specs.declared.NumberAnswer.{NumberAnswer}
 use Rattle.image.specs.Places.{listWith}
 use Rattle.image_writer.specs.Writing.{sumOf, given}
 use Rattle.image_weaving.specs.Weaving.{wovenLists, tallyReply}
@@ -55,6 +55,6 @@ pub record ListsWoven (bs : List ℕ) (k end : ℕ) (ids ns cs vs ds : List ℕ)
   pub lists : given (take k ids) (take k ns) (take (end * 2) cs) (take (end * 2) vs) (take end ds) ≡ wovenLists (widthIn bs) (take k (listsOf bs))
 
 -- They are, and the answer says where their rules end. It is no refusal.
-abbrev pub WovenUpTo : (bs : List ℕ) → (k : ℕ) → Outcome → (ids ns cs vs ds : List ℕ) → Type 0
-WovenUpTo bs k (Outcome.Number end) ids ns cs vs ds = ListsWoven bs k end ids ns cs vs ds
-WovenUpTo bs k (Outcome.Refused x) ids ns cs vs ds = ⊥
+abbrev pub WovenUpTo : (bs : List ℕ) → (k : ℕ) → NumberAnswer → (ids ns cs vs ds : List ℕ) → Type 0
+WovenUpTo bs k (NumberAnswer.Number end) ids ns cs vs ds = ListsWoven bs k end ids ns cs vs ds
+WovenUpTo bs k (NumberAnswer.Refused x) ids ns cs vs ds = ⊥

@@ -8,10 +8,10 @@ use Rattle.rules.specs.Checks.{roomCheck}
 use Rattle.weaving.specs.Weave.{weave, kept, dropped, merges}
 use Rattle.image_form.specs.Images.{Named, named, formatIn, widthIn, listsOf, bytesOf}
 use Rattle.image_check.specs.Checks.{imageCheck}
-use Rattle.image.specs.declared.Outcome.{Outcome}
+use Rattle.image.specs.declared.NumberAnswer.{NumberAnswer}
 use Rattle.image.specs.Places.{listWith}
 use Rattle.image.specs.Calls.{idCheck, filled}
-use Rattle.image.specs.Replies.{outcomeReply}
+use Rattle.image.specs.Replies.{numberReply}
 
 -- Each list with its id, and its rules woven (01, Weaving).
 unfoldable pub wovenLists : (w : ℕ) → List Named → List Named
@@ -30,8 +30,8 @@ weaveImageReply bs out =
     then Gives (length (wovenBytes bs) ∷ [])
 
 -- The answer, and the lent bytes afterwards: the woven image from the first byte on, and later bytes as they were.
-pub record ImageWoven (bs out : List ℕ) (r : Outcome) (out′ : List ℕ) : Type 0 where
-  pub answer : outcomeReply r ≡ weaveImageReply bs out
+pub record ImageWoven (bs out : List ℕ) (r : NumberAnswer) (out′ : List ℕ) : Type 0 where
+  pub answer : numberReply r ≡ weaveImageReply bs out
   pub bytes : out′ ≡ unlessRefused (weaveImageReply bs out) (filled (wovenBytes bs) out) out
 
 -- What weaving the list with an id counts: the image's refusals and 15; else entries kept, rules dropped and merges made.

@@ -7,7 +7,7 @@ ghost use Rattle.image_check.specs.Checks.{imageCheck};
 ghost use Rattle.image_weaving.specs.Weaving.{ImageWoven};
 ghost use Rattle.image_weaving.specs.Parts.{RoomForAll, ListsWoven, WovenUpTo};
 use crate::lists::weave_list;
-use image::Outcome;
+use image::NumberAnswer;
 use image::check;
 use image_form::byte_at;
 use image_form::entry_in;
@@ -25,7 +25,7 @@ fn weave_next(
     care: &mut [u64],
     value: &mut [u64],
     decision: &mut [u16],
-) -> Outcome
+) -> NumberAnswer
     requires { ⌜ RoomForAll (now image) (now ids) (now counts) (now care) (now value) (now decision) × (k < countIn (now image))
         × ListsWoven (now image) k from (now ids) (now counts) (now care) (now value) (now decision) ⌝ }
     ensures { λ r. ⌜ WovenUpTo (now (image .entry)) (k + 1) r
@@ -42,11 +42,11 @@ fn weave_next(
         &mut decision[from..],
     );
     match w {
-        Woven::Refused(x) => Outcome::Refused(x),
+        Woven::Refused(x) => NumberAnswer::Refused(x),
         Woven::Done(t) => {
             ids[k] = id;
             counts[k] = t.kept as u16;
-            Outcome::Number(from + t.kept)
+            NumberAnswer::Number(from + t.kept)
         }
     }
 }
@@ -59,7 +59,7 @@ fn weave_lists(
     care: &mut [u64],
     value: &mut [u64],
     decision: &mut [u16],
-) -> Outcome
+) -> NumberAnswer
     requires { ⌜ RoomForAll (now image) (now ids) (now counts) (now care) (now value) (now decision) ⌝ }
     ensures { λ r. ⌜ WovenUpTo (now (image .entry)) (countIn (now (image .entry))) r
         (now (ids .exit)) (now (counts .exit)) (now (care .exit)) (now (value .exit)) (now (decision .exit))
@@ -71,16 +71,16 @@ fn weave_lists(
     while k < lists {
         let o = weave_next(image, k, from, ids, counts, care, value, decision);
         match o {
-            Outcome::Refused(x) => return Outcome::Refused(x),
-            Outcome::Number(n) => from = n,
+            NumberAnswer::Refused(x) => return NumberAnswer::Refused(x),
+            NumberAnswer::Number(n) => from = n,
         }
         k += 1;
     }
-    Outcome::Number(from)
+    NumberAnswer::Number(from)
 }
 
 // Weaves and writes an accepted image. No image has more than 3,640 rules: a rule takes 18 bytes or more of its 65,536.
-fn weave_accepted(image: &[u8], out: &mut [u8]) -> Outcome
+fn weave_accepted(image: &[u8], out: &mut [u8]) -> NumberAnswer
     requires { ⌜ imageCheck (now image) ≡ passed ⌝ }
     ensures { λ r. ⌜ ImageWoven (now (image .entry)) (now (out .entry)) r (now (out .exit)) ⌝ }
 {
@@ -99,8 +99,8 @@ fn weave_accepted(image: &[u8], out: &mut [u8]) -> Outcome
         &mut decision,
     );
     match o {
-        Outcome::Refused(x) => Outcome::Refused(x),
-        Outcome::Number(rules) => {
+        NumberAnswer::Refused(x) => NumberAnswer::Refused(x),
+        NumberAnswer::Number(rules) => {
             let lists = byte_at(image, 2);
             let halves = rules * 2;
             write(
@@ -118,12 +118,12 @@ fn weave_accepted(image: &[u8], out: &mut [u8]) -> Outcome
 }
 
 // Weaves every list of an image into `out`: an image of the same format, width and ids. The image's refusal, then 7.
-pub fn weave_image(image: &[u8], out: &mut [u8]) -> Outcome
+pub fn weave_image(image: &[u8], out: &mut [u8]) -> NumberAnswer
     ensures { λ r. ⌜ ImageWoven (now (image .entry)) (now (out .entry)) r (now (out .exit)) ⌝ }
 {
     let v = check(image);
     match v {
-        Verdict::Refused(x) => Outcome::Refused(x),
+        Verdict::Refused(x) => NumberAnswer::Refused(x),
         Verdict::Fine => weave_accepted(image, out),
     }
 }

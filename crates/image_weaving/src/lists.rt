@@ -3,7 +3,7 @@ ghost use mathlib.Core.Path.{_≡_};
 ghost use Rattle.weaving.specs.Calls.{wovenReply};
 ghost use Rattle.image_weaving.specs.Weaving.{tallyReply};
 ghost use Rattle.image_weaving.specs.Parts.{RoomFor, ListWoven};
-use image::Outcome;
+use image::NumberAnswer;
 use image::read;
 use image_form::byte_at;
 use weaving::Woven;
@@ -26,8 +26,8 @@ pub(crate) fn weave_list(
     let mut decisions = [0u16; 1024];
     let o = read(image, id, &mut cares, &mut values, &mut decisions);
     match o {
-        Outcome::Refused(x) => Woven::Refused(x),
-        Outcome::Number(rules) => {
+        NumberAnswer::Refused(x) => Woven::Refused(x),
+        NumberAnswer::Number(rules) => {
             let halves = rules * 2;
             weave(
                 byte_at(image, 1) as u32,

@@ -13,17 +13,17 @@ use Rattle.rules.specs.Replies.{Gives, passed, need, unlessRefused}
 use Rattle.rules.specs.Checks.{lengthsCheck}
 use Rattle.rules.proofs.ReplyLaws.{then-next, then-second, need-then, one-value}
 use Rattle.rules.proofs.CheckLaws.{lengths-yes}
-use Rattle.image.specs.declared.Outcome.{Outcome}
+use Rattle.image.specs.declared.NumberAnswer.{NumberAnswer}
 use Rattle.image.specs.declared.Listed.{Listed}
 use Rattle.image_form.specs.Images.{Named, named, formatIn, widthIn, countIn, listsOf}
 use Rattle.image_check.specs.Checks.{imageCheck}
 use Rattle.image.specs.Places.{listWith}
-use Rattle.image.specs.Replies.{outcomeReply, listedReply}
+use Rattle.image.specs.Replies.{numberReply, listedReply}
 use Rattle.image.specs.Calls.{formatReply, widthReply, countReply, entryReply, readReply, ReadOut, filled}
 use Rattle.image_check.proofs.BareLaws.{bare-first, bare-image}
 use Rattle.image.proofs.BackLaws.{AreBytes, length-listsOf}
 use Rattle.image.proofs.Theorems.{rulesNamed, list-named}
-use Rattle.image.proofs.Unique.{one-outcome}
+use Rattle.image.proofs.Unique.{one-number-answer}
 use Rattle.image_writer.proofs.AgainLaws.{Rising}
 use Rattle.image_writer.proofs.CarryLaws.{image-carried, ids-fit, namesOf, countsOf, joined, length-names, length-column}
 use Rattle.image_writer.proofs.ListLaws.{listAt, named-at, entry-gives, read-gives, read-cares, read-values, read-decisions, Laid, columns-lent, laid-none, laid-more}
@@ -32,14 +32,14 @@ use Rattle.image_writer.proofs.ListLaws.{listAt, named-at, entry-gives,
 -- for that id, and the first places of its slices stand before those of the lists that follow.
 pub data Collected (b : List ℕ) : (k : ℕ) → (ids ns cs vs ds : List ℕ) → Type 0 where
   ended : {k : ℕ} → Collected b k [] [] [] [] []
-  listed : {k id n : ℕ} {c v d c′ v′ d′ ids ns cs vs ds : List ℕ} → listedReply (Listed.List id n) ≡ entryReply b k → ReadOut b id c v d (Outcome.Number n) c′ v′ d′
+  listed : {k id n : ℕ} {c v d c′ v′ d′ ids ns cs vs ds : List ℕ} → listedReply (Listed.List id n) ≡ entryReply b k → ReadOut b id c v d (NumberAnswer.Number n) c′ v′ d′
       → Collected b (k + 1) ids ns cs vs ds → Collected b k (id ∷ ids) (n ∷ ns) (take (n * 2) c′ ++ cs) (take (n * 2) v′ ++ vs) (take n d′ ++ ds)
 
 -- A whole image as a caller reads it: the answers of `format`, `width` and `count`, and as many lists as `count` says.
 pub record ReadWhole (b : List ℕ) (f w : ℕ) (ids ns cs vs ds : List ℕ) : Type 0 where
-  pub format : outcomeReply (Outcome.Number f) ≡ formatReply b
-  pub width : outcomeReply (Outcome.Number w) ≡ widthReply b
-  pub count : outcomeReply (Outcome.Number (length ids)) ≡ countReply b
+  pub format : numberReply (NumberAnswer.Number f) ≡ formatReply b
+  pub width : numberReply (NumberAnswer.Number w) ≡ widthReply b
+  pub count : numberReply (NumberAnswer.Number (length ids)) ≡ countReply b
   pub lists : Collected b 1 ids ns cs vs ds
 
 -- ---- list by list
@@ -94,7 +94,7 @@ module _ (b : List ℕ) (f : imageCheck b ≡ passed) (up : Rising 0 (listsOf b)
 
   -- a list of the image, read into slices that just hold it
   list-read : (k : ℕ) → k < countIn b → (rs : List Rule) → rs ≡ listAt (listsOf b) k .rules
-      → ReadOut b (listAt (listsOf b) k .id) (caresOf rs) (valuesOf rs) (decisionsOf rs) (Outcome.Number (length rs)) (caresOf rs) (valuesOf rs) (decisionsOf rs)
+      → ReadOut b (listAt (listsOf b) k .id) (caresOf rs) (valuesOf rs) (decisionsOf rs) (NumberAnswer.Number (length rs)) (caresOf rs) (valuesOf rs) (decisionsOf rs)
   list-read k below rs is =
       let id : ℕ = listAt (listsOf b) k .id in
       let mine : rulesNamed id (listsOf b) ≡ rs = named-at 0 (listsOf b) k up (omega (arith, length-listsOf b)) ∙ sym is in
@@ -133,15 +133,15 @@ module _ (b : List ℕ) (h : AreBytes b) (f : imageCheck b ≡ passed) where
 
   -- A list that `entry` tells is not refused: `read` with its id gives the count that `entry` told, where the slices belong together and
   -- have room.
-  pub entry-read : (k id n : ℕ) (c v d c′ v′ d′ : List ℕ) (r : Outcome) → listedReply (Listed.List id n) ≡ entryReply b k → lengthsCheck c v d ≡ passed → n ≤ length d
-      → ReadOut b id c v d r c′ v′ d′ → r ≡ Outcome.Number n
+  pub entry-read : (k id n : ℕ) (c v d c′ v′ d′ : List ℕ) (r : NumberAnswer) → listedReply (Listed.List id n) ≡ entryReply b k → lengthsCheck c v d ≡ passed → n ≤ length d
+      → ReadOut b id c v d r c′ v′ d′ → r ≡ NumberAnswer.Number n
   entry-read k id n c v d c′ v′ d′ r e l room o =
       let in-range = entry-range b k (id ∷ n ∷ []) (sym e) in
       let same : k ≡ k - 1 + 1 = omega (arith, in-range .0) in
       let below : k - 1 < countIn b = omega (arith, in-range .0, in-range .1) in
       let x = entry-list b f rises (k - 1) id n below (e ∙ ap (entryReply b) same) in
       let size : length (rulesNamed id (listsOf b)) ≡ n = ap length (x .2) ∙ sym (x .1) in
-      one-outcome r (Outcome.Number n) (o .answer ∙ read-gives b (k - 1) f below id (x .0) c v d l (omega (arith, size)) ∙ ap (λ (i : ℕ). Gives (i ∷ [])) size)
+      one-number-answer r (NumberAnswer.Number n) (o .answer ∙ read-gives b (k - 1) f below id (x .0) c v d l (omega (arith, size)) ∙ ap (λ (i : ℕ). Gives (i ∷ [])) size)
 
   -- Every accepted image can be read whole: what comes out is its format, its width and its lists.
   pub readable : ReadWhole b (formatIn b) (widthIn b) (namesOf (listsOf b)) (countsOf (listsOf b)) (caresOf (joined (listsOf b))) (valuesOf (joined (listsOf b))) (decisionsOf (joined (listsOf b)))

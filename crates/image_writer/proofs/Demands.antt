@@ -14,7 +14,7 @@ use Rattle.rules.specs.Replies.{Reply, Gives, passed, need, _then_, unlessRefus
 use Rattle.rules.specs.Checks.{lengthsCheck, roomCheck}
 use Rattle.rules.proofs.ReplyLaws.{then-next, then-second, one-value}
 use Rattle.rules.proofs.SliceLaws.{rules-length, rules-columns, rules-care, rules-value, rules-decision}
-use Rattle.image.specs.declared.Outcome.{Outcome}
+use Rattle.image.specs.declared.NumberAnswer.{NumberAnswer}
 use Rattle.image_form.specs.Formats.{formatCheck, rangeCheck}
 use Rattle.image_form.specs.Images.{Named, formatIn, widthIn, countIn, listsOf, bytesOf}
 use Rattle.image_check.specs.Checks.{listsCheck, imageCheck}
@@ -22,7 +22,7 @@ use Rattle.image.specs.Calls.{formatReply, widthReply, countReply, entryReply, 
 use Rattle.image_check.proofs.BareLaws.{Bare, bare-need, bare-then, bare-first}
 use Rattle.image.proofs.BackLaws.{AreBytes}
 use Rattle.image.proofs.Theorems.{rulesNamed}
-use Rattle.image.proofs.Unique.{one-outcome}
+use Rattle.image.proofs.Unique.{one-number-answer}
 use Rattle.image_writer.specs.Writing.{sumOf, listsFrom, given, namesCheck, imageLength, givenCheck, shapeCheck, writeCheck, writeReply, Written}
 use Rattle.image_writer.proofs.WriteLaws.{WriteFacts, write-facts, length-cut, rules-given, length-image}
 use Rattle.image_writer.proofs.AgainLaws.{Rising}
@@ -43,7 +43,7 @@ bare-write f w ids ns cs vs ds room =
     (bare-then (need (leb (imageLength f (length ids) (length ds)) 65536) 10 0 0) _ (bare-need (leb (imageLength f (length ids) (length ds)) room) 7 0 0))))
 
 -- `write` answered with the number n, and left out′ in the bytes that held out.
-module _ (f w : ℕ) (ids ns cs vs ds out out′ : List ℕ) (n : ℕ) (a : AreIds ids) (W : Written f w ids ns cs vs ds out (Outcome.Number n) out′) where
+module _ (f w : ℕ) (ids ns cs vs ds out out′ : List ℕ) (n : ℕ) (a : AreIds ids) (W : Written f w ids ns cs vs ds out (NumberAnswer.Number n) out′) where
   check : writeCheck f w ids ns cs vs ds (length out) ≡ passed
   unfolding writeReply
   check = bare-first (writeCheck f w ids ns cs vs ds (length out)) _ (bare-write f w ids ns cs vs ds (length out)) (n ∷ []) (sym (W .answer))
@@ -101,7 +101,7 @@ module _ (f w : ℕ) (ids ns cs vs ds out out′ : List ℕ) (n : ℕ) (a : AreI
   )
 
   -- `read`, where it gives a number, gives the number of rules given for that id, and the first places of its slices hold them.
-  pub written-reads : (id : ℕ) (c v d c′ v′ d′ : List ℕ) (m : ℕ) → ReadOut (take n out′) id c v d (Outcome.Number m) c′ v′ d′
+  pub written-reads : (id : ℕ) (c v d c′ v′ d′ : List ℕ) (m : ℕ) → ReadOut (take n out′) id c v d (NumberAnswer.Number m) c′ v′ d′
       → (rulesOf (take (m * 2) c′) (take (m * 2) v′) (take m d′) ≡ rulesNamed id (given ids ns cs vs ds)) × (m ≡ length (rulesNamed id (given ids ns cs vs ds)))
   written-reads id c v d c′ v′ d′ m o = (
     read-rules (take n out′) id c v d m c′ v′ d′ o ∙ ap (rulesNamed id) lists,
@@ -175,22 +175,22 @@ module _ (f w : ℕ) (ids ns cs vs ds out out′ : List ℕ) (n : ℕ) (a : AreI
         (read-gives (take n out′) k written-passes below id (sym (ap (λ (x : List Named). listAt x k .id) lists ∙ at-id)) c v d l)
 
     -- Written, then read: the answer is the count given for the id, and the first places of the slices hold the rules given for it.
-    pub written-list : (c v d c′ v′ d′ : List ℕ) (r : Outcome) → lengthsCheck c v d ≡ passed → getD ns k 0 ≤ length d
+    pub written-list : (c v d c′ v′ d′ : List ℕ) (r : NumberAnswer) → lengthsCheck c v d ≡ passed → getD ns k 0 ≤ length d
         → ReadOut (take n out′) (getD ids k 0) c v d r c′ v′ d′
-        → (r ≡ Outcome.Number (getD ns k 0))
+        → (r ≡ NumberAnswer.Number (getD ns k 0))
         × (rulesOf (take (getD ns k 0 * 2) c′) (take (getD ns k 0 * 2) v′) (take (getD ns k 0) d′) ≡ take (getD ns k 0) (drop (sumOf (take k ns)) (rulesOf cs vs ds)))
     written-list c v d c′ v′ d′ r l room o =
         let m : ℕ = getD ns k 0 in
-        let answer : r ≡ Outcome.Number m =
-        one-outcome r (Outcome.Number m) (o .answer ∙ written-found c v d l (omega (arith, part-size)) ∙ ap (λ (i : ℕ). Gives (i ∷ [])) part-size) in
-        let told : ReadOut (take n out′) (getD ids k 0) c v d (Outcome.Number m) c′ v′ d′ = rw answer at o in
+        let answer : r ≡ NumberAnswer.Number m =
+        one-number-answer r (NumberAnswer.Number m) (o .answer ∙ written-found c v d l (omega (arith, part-size)) ∙ ap (λ (i : ℕ). Gives (i ∷ [])) part-size) in
+        let told : ReadOut (take n out′) (getD ids k 0) c v d (NumberAnswer.Number m) c′ v′ d′ = rw answer at o in
         (answer, written-reads (getD ids k 0) c v d c′ v′ d′ m told .0 ∙ written-part)
 
 -- ---- read, and written again
 
 -- The image again: the answer is its length, the bytes start with it, and later bytes are as they were.
-abbrev pub Again : (b out : List ℕ) → (r : Outcome) → (out′ : List ℕ) → Type 0
-Again b out r out′ = (r ≡ Outcome.Number (length b)) × (take (length b) out′ ≡ b) × (drop (length b) out′ ≡ drop (length b) out)
+abbrev pub Again : (b out : List ℕ) → (r : NumberAnswer) → (out′ : List ℕ) → Type 0
+Again b out r out′ = (r ≡ NumberAnswer.Number (length b)) × (take (length b) out′ ≡ b) × (drop (length b) out′ ≡ drop (length b) out)
 
 -- the writer goes by the rules: slices that belong together and hold the same rules are written alike
 module _ (f w : ℕ) (ids ns c v d cs vs ds out : List ℕ) (l : Lent c v d) (m : Lent cs vs ds) (e : rulesOf c v d ≡ rulesOf cs vs ds) where
@@ -210,7 +210,7 @@ module _ (f w : ℕ) (ids ns c v d cs vs ds out : List ℕ) (l : Lent c v d) (m 
       then roomCheck (imageLength f (length ids) (q j)) (length out))
       then Gives (imageLength f (length ids) (q j) ∷ [])
 
-  same-written : (r : Outcome) (out′ : List ℕ) → Written f w ids ns c v d out r out′ → Written f w ids ns cs vs ds out r out′
+  same-written : (r : NumberAnswer) (out′ : List ℕ) → Written f w ids ns c v d out r out′ → Written f w ids ns cs vs ds out r out′
   same-written r out′ W =
       record {
         answer = W .answer ∙ same-reply;
@@ -227,17 +227,17 @@ module _ (b : List ℕ) (h : AreBytes b) (f : imageCheck b ≡ passed) where
       (l .names, l .counts, laid-rules (listsOf b) ids ns cs vs ds l, laid-lent (listsOf b) ids ns cs vs ds l)
 
   -- Where `write` is given the format, the width and the lists of an image, there is no result but the image again.
-  pub rewritten-bytes : (out out′ : List ℕ) (r : Outcome) → length b ≤ length out
+  pub rewritten-bytes : (out out′ : List ℕ) (r : NumberAnswer) → length b ≤ length out
       → Written (formatIn b) (widthIn b) (namesOf (listsOf b)) (countsOf (listsOf b)) (caresOf (joined (listsOf b))) (valuesOf (joined (listsOf b))) (decisionsOf (joined (listsOf b))) out r out′
       → Again b out r out′
   rewritten-bytes out out′ r room W =
       let rs : List Rule = joined (listsOf b) in
-      let e = write-once (formatIn b) (widthIn b) (namesOf (listsOf b)) (countsOf (listsOf b)) (caresOf rs) (valuesOf rs) (decisionsOf rs) out r (Outcome.Number (length b)) out′ (filled b out)
+      let e = write-once (formatIn b) (widthIn b) (namesOf (listsOf b)) (countsOf (listsOf b)) (caresOf rs) (valuesOf rs) (decisionsOf rs) out r (NumberAnswer.Number (length b)) out′ (filled b out)
       W (rewritten b out h f room) in
       (e .0, ap (take (length b)) (e .1) ∙ take-at b (drop (length b) out) (length b) refl, ap (drop (length b)) (e .1) ∙ drop-at b (drop (length b) out) (length b) refl)
 
   -- The same of any slices that belong together and hold the rules of its lists one after the other.
-  pub rewritten-rules : (cs vs ds out out′ : List ℕ) (r : Outcome) → Lent cs vs ds → rulesOf cs vs ds ≡ joined (listsOf b) → length b ≤ length out
+  pub rewritten-rules : (cs vs ds out out′ : List ℕ) (r : NumberAnswer) → Lent cs vs ds → rulesOf cs vs ds ≡ joined (listsOf b) → length b ≤ length out
       → Written (formatIn b) (widthIn b) (namesOf (listsOf b)) (countsOf (listsOf b)) cs vs ds out r out′ → Again b out r out′
   rewritten-rules cs vs ds out out′ r l e room W =
       let ls : List Named = listsOf b in
@@ -249,7 +249,7 @@ module _ (b : List ℕ) (h : AreBytes b) (f : imageCheck b ≡ passed) where
 module _ (b : List ℕ) (f w : ℕ) (ids ns cs vs ds : List ℕ) (h : AreBytes b) (R : ReadWhole b f w ids ns cs vs ds) where
   -- Read, then written: the format, the width, the ids and the counts that were told, and slices that belong together and hold the rules
   -- that were read, give the image's bytes.
-  pub rewritten-from-rules : (c v d out out′ : List ℕ) (r : Outcome) → Lent c v d → rulesOf c v d ≡ rulesOf cs vs ds → length b ≤ length out
+  pub rewritten-from-rules : (c v d out out′ : List ℕ) (r : NumberAnswer) → Lent c v d → rulesOf c v d ≡ rulesOf cs vs ds → length b ≤ length out
       → Written f w ids ns c v d out r out′ → Again b out r out′
   rewritten-from-rules c v d out out′ r l e room W =
       let k = whole-passes b f w ids ns cs vs ds R in
@@ -258,7 +258,7 @@ module _ (b : List ℕ) (f w : ℕ) (ids ns cs vs ds : List ℕ) (h : AreBytes b
       rewritten-rules b h k c v d out out′ r l (e ∙ all .2) room (rw (head .0, head .1, all .0, all .1) at W)
 
   -- So do the slices as they were collected.
-  pub rewritten-by-calls : (out out′ : List ℕ) (r : Outcome) → length b ≤ length out → Written f w ids ns cs vs ds out r out′ → Again b out r out′
+  pub rewritten-by-calls : (out out′ : List ℕ) (r : NumberAnswer) → length b ≤ length out → Written f w ids ns cs vs ds out r out′ → Again b out r out′
   rewritten-by-calls out out′ r room W =
       let all = collected-lists b h (whole-passes b f w ids ns cs vs ds R) ids ns cs vs ds (R .lists) (whole-head b f w ids ns cs vs ds R .2) in
       rewritten-from-rules cs vs ds out out′ r (all .3) refl room W

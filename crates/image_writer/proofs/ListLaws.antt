@@ -17,7 +17,7 @@ use Rattle.rules.specs.Checks.{lengthsCheck}
 use Rattle.rules.proofs.ReplyLaws.{then-next, need-yes}
 use Rattle.rules.proofs.CheckLaws.{room-yes}
 use Rattle.rules.proofs.SliceLaws.{rules-columns}
-use Rattle.image.specs.declared.Outcome.{Outcome}
+use Rattle.image.specs.declared.NumberAnswer.{NumberAnswer}
 use Rattle.image_form.specs.Formats.{ruleSize}
 use Rattle.image_form.specs.declared.Entry.{Entry}
 use Rattle.image_form.specs.Images.{entryWith, Named, named, listsIn, formatIn, countIn, entriesOf, listsOf}
@@ -113,9 +113,9 @@ module _ (b : List ℕ) (k : ℕ) where
 
 -- ---- what is in the slices after a read that came out
 
-module _ (b : List ℕ) (id : ℕ) (c v d : List ℕ) (n : ℕ) (c′ v′ d′ : List ℕ) (o : ReadOut b id c v d (Outcome.Number n) c′ v′ d′) where
+module _ (b : List ℕ) (id : ℕ) (c v d : List ℕ) (n : ℕ) (c′ v′ d′ : List ℕ) (o : ReadOut b id c v d (NumberAnswer.Number n) c′ v′ d′) where
   held : Held n (listWith b id) c′ v′ d′
-  held = read-held b id c v d (Outcome.Number n) c′ v′ d′ o n refl
+  held = read-held b id c v d (NumberAnswer.Number n) c′ v′ d′ o n refl
 
   -- the answer is the number of rules
   pub read-size : length (rulesNamed id (listsOf b)) ≡ n

@@ -10,7 +10,7 @@ use Rattle.rules.specs.Lists.{All}
 use Rattle.rules.specs.Replies.{Reply, Gives, passed, unlessRefused}
 use Rattle.rules.proofs.ReplyLaws.{then-next}
 use Rattle.rules.proofs.SliceLaws.{rules-columns}
-use Rattle.image.specs.declared.Outcome.{Outcome}
+use Rattle.image.specs.declared.NumberAnswer.{NumberAnswer}
 use Rattle.image_form.specs.Formats.{known, mostPlaces}
 use Rattle.image_form.specs.Images.{Named, formatIn, widthIn, listsOf, bytesOf}
 use Rattle.image_check.specs.Checks.{imageCheck}
@@ -90,7 +90,7 @@ read-written b h f = read-write b h f
 -- The call that does so gives the image's length, and the lent bytes start with the image.
 pub rewritten : (b out : List ℕ) → AreBytes b → imageCheck b ≡ passed → length b ≤ length out
     → Written (formatIn b) (widthIn b) (namesOf (listsOf b)) (countsOf (listsOf b)) (caresOf (joined (listsOf b))) (valuesOf (joined (listsOf b))) (decisionsOf (joined (listsOf b))) out
-    (Outcome.Number (length b)) (filled b out)
+    (NumberAnswer.Number (length b)) (filled b out)
 unfolding writeReply
 rewritten b out h f room =
     let ls : List Named = listsOf b in

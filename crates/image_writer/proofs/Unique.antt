@@ -2,11 +2,11 @@
 use mathlib.Core.Path.{_≡_, sym, _∙_}
 use mathlib.Core.List.{List}
 use Prim.Native.Nat.{ℕ}
-use Rattle.image.specs.declared.Outcome.{Outcome}
-use Rattle.image.proofs.Unique.{one-outcome}
+use Rattle.image.specs.declared.NumberAnswer.{NumberAnswer}
+use Rattle.image.proofs.Unique.{one-number-answer}
 use Rattle.image_writer.specs.Writing.{Written}
 
 -- `write`
-pub write-once : (f w : ℕ) (ids ns cs vs ds out : List ℕ) (x y : Outcome) (out₁ out₂ : List ℕ)
+pub write-once : (f w : ℕ) (ids ns cs vs ds out : List ℕ) (x y : NumberAnswer) (out₁ out₂ : List ℕ)
     → Written f w ids ns cs vs ds out x out₁ → Written f w ids ns cs vs ds out y out₂ → (x ≡ y) × (out₁ ≡ out₂)
-write-once f w ids ns cs vs ds out x y out₁ out₂ p q = (one-outcome x y (p .answer ∙ sym (q .answer)), p .bytes ∙ sym (q .bytes))
+write-once f w ids ns cs vs ds out x y out₁ out₂ p q = (one-number-answer x y (p .answer ∙ sym (q .answer)), p .bytes ∙ sym (q .bytes))

@@ -16,7 +16,7 @@ use Rattle.rules.specs.Checks.{roomCheck}
 use Rattle.rules.specs.Slices.{rulesOf}
 use Rattle.rules.proofs.ReplyLaws.{fine-next, refused-stop, need-then, then-second}
 use Rattle.rules.proofs.SliceLaws.{rules-length}
-use Rattle.image.specs.declared.Outcome.{Outcome}
+use Rattle.image.specs.declared.NumberAnswer.{NumberAnswer}
 use Rattle.image_form.specs.Formats.{ruleSize}
 use Rattle.image_form.specs.declared.Entry.{Entry}
 use Rattle.image_form.specs.Images.{entryWith, entriesFor, ruleBytes, rulesBytes, bodiesBytes, contentsBytes, bytesOf}
@@ -147,7 +147,7 @@ module _ (fmt w : ℕ) (ids ns cs vs ds : List ℕ) (shape : Shape fmt w ids ns 
 -- ---- the call
 
 module _ (fmt w : ℕ) (ids ns cs vs ds out : List ℕ) (v : Verdict) (p : verdictReply v ≡ writeCheck fmt w ids ns cs vs ds (length out)) where
-  pub written-refused : {x : Refusal} → v ≡ Verdict.Refused x → Written fmt w ids ns cs vs ds out (Outcome.Refused x) out
+  pub written-refused : {x : Refusal} → v ≡ Verdict.Refused x → Written fmt w ids ns cs vs ds out (NumberAnswer.Refused x) out
   unfolding writeReply
   written-refused {x} q =
       let e : writeReply fmt w ids ns cs vs ds out ≡ refusalReply x = refused-stop v _ _ p q in
@@ -155,7 +155,7 @@ module _ (fmt w : ℕ) (ids ns cs vs ds out : List ℕ) (v : Verdict) (p : verdi
 
   pub written : v ≡ Verdict.Fine → (size : ℕ) → size ≡ ruleSize fmt * length ds → (s₁ s₂ s₃ : List ℕ)
       → s₁ ≡ over out 0 (fmt ∷ w ∷ length ids ∷ 0 ∷ []) → s₂ ≡ over s₁ 4 (contentsBytes (entriesGiven fmt (4 + 8 * length ids) ids ns)) → s₃ ≡ over s₂ (4 + 8 * length ids) (rulesBytes fmt (rulesOf cs vs ds))
-      → Written fmt w ids ns cs vs ds out (Outcome.Number (4 + 8 * length ids + size)) s₃
+      → Written fmt w ids ns cs vs ds out (NumberAnswer.Number (4 + 8 * length ids + size)) s₃
   unfolding writeReply
   written q size z s₁ s₂ s₃ e₁ e₂ e₃ =
       let f = wrote fmt w ids ns cs vs ds (length out) v p q in

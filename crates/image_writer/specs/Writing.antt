@@ -8,12 +8,12 @@ use Rattle.rules.specs.Rule.{Rule}
 use Rattle.rules.specs.Slices.{rulesOf}
 use Rattle.rules.specs.Replies.{Reply, Gives, passed, need, _then_, unlessRefused}
 use Rattle.rules.specs.Checks.{lengthsCheck, sizeCheck, roomCheck}
-use Rattle.image.specs.declared.Outcome.{Outcome}
+use Rattle.image.specs.declared.NumberAnswer.{NumberAnswer}
 use Rattle.image_form.specs.Formats.{ruleSize, formatCheck, rangeCheck}
 use Rattle.image_form.specs.Images.{Named, named, bytesOf}
 use Rattle.image_check.specs.Checks.{listsCheck}
 use Rattle.image.specs.Calls.{filled}
-use Rattle.image.specs.Replies.{outcomeReply}
+use Rattle.image.specs.Replies.{numberReply}
 
 unfoldable pub sumOf : List ℕ → ℕ
 sumOf [] = 0
@@ -73,6 +73,6 @@ writeReply f w ids ns cs vs ds out =
     writeCheck f w ids ns cs vs ds (length out) then Gives (imageLength f (length ids) (length ds) ∷ [])
 
 -- Writing: the answer, and the lent bytes afterwards: the image from the first byte on, and later bytes as they were.
-pub record Written (f w : ℕ) (ids ns cs vs ds out : List ℕ) (r : Outcome) (out′ : List ℕ) : Type 0 where
-  pub answer : outcomeReply r ≡ writeReply f w ids ns cs vs ds out
+pub record Written (f w : ℕ) (ids ns cs vs ds out : List ℕ) (r : NumberAnswer) (out′ : List ℕ) : Type 0 where
+  pub answer : numberReply r ≡ writeReply f w ids ns cs vs ds out
   pub bytes : out′ ≡ unlessRefused (writeReply f w ids ns cs vs ds out) (filled (bytesOf f w (given ids ns cs vs ds)) out) out

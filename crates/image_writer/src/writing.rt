@@ -12,7 +12,7 @@ use crate::puts::put_contents;
 use crate::puts::put_head;
 use crate::puts::put_rules;
 use crate::puts::wide16;
-use image::Outcome;
+use image::NumberAnswer;
 use image_form::layout;
 use rules::Verdict;
 use rules::check_list_as;
@@ -202,18 +202,18 @@ pub fn write(
     value: &[u64],
     decision: &[u16],
     out: &mut [u8],
-) -> Outcome
+) -> NumberAnswer
     ensures { λ r. ⌜ Written format width (now (ids .entry)) (now (counts .entry))
         (now (care .entry)) (now (value .entry)) (now (decision .entry)) (now (out .entry)) r (now (out .exit)) ⌝ }
 {
     let v = write_verdict(format, width, ids, counts, care, value, decision, out.len());
     if let Verdict::Refused(x) = v {
-        return Outcome::Refused(x);
+        return NumberAnswer::Refused(x);
     }
     let lists = ids.len();
     let from = 4 + 8 * lists;
     put_head(out, format, width, lists);
     put_contents(out, format, ids, counts);
     put_rules(out, format, from, care, value, decision);
-    Outcome::Number(from + layout(format).rule * decision.len())
+    NumberAnswer::Number(from + layout(format).rule * decision.len())
 }

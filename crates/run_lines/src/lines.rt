@@ -2,7 +2,7 @@
 ghost use mathlib.Core.Path.{_≡_};
 ghost use Rattle.compare.specs.declared.Ending.{Ending};
 use compare::Ending;
-use image::Outcome;
+use image::NumberAnswer;
 use rules::Wire;
 use words::Word;
 
@@ -75,7 +75,7 @@ pub(crate) fn runs(first: &[u64], last: &[u64], old: &[u16], new: &[u16], count:
 
 pub(crate) fn width(image: &[u8]) {
     let w = image::width(image);
-    if let Outcome::Number(n) = w {
+    if let NumberAnswer::Number(n) = w {
         say(b"width ");
         number(n as u64);
         say(b"\n");

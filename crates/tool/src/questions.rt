@@ -4,7 +4,7 @@ use crate::lines;
 use crate::lists;
 use crate::slices;
 use command_line::Command;
-use image::Outcome;
+use image::NumberAnswer;
 use rules::Hit;
 use rules::Looked;
 use rules::Refusal;
@@ -27,14 +27,14 @@ pub(crate) fn ask(image: &[u8], id: u16, request: Request) {
     let mut decision = [0u16; 1024];
     let o = image::read(image, id, &mut care, &mut value, &mut decision);
     match o {
-        Outcome::Number(n) => answered(
+        NumberAnswer::Number(n) => answered(
             image,
             slices::words(&care, n),
             slices::words(&value, n),
             slices::shorts(&decision, n),
             request,
         ),
-        Outcome::Refused(x) => lines::refusal(x),
+        NumberAnswer::Refused(x) => lines::refusal(x),
     }
 }
 

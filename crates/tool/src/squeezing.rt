@@ -4,7 +4,7 @@ use crate::files;
 use crate::lines;
 use crate::lists;
 use crate::slices;
-use image::Outcome;
+use image::NumberAnswer;
 use weaving::Tally;
 use weaving::Woven;
 
@@ -13,12 +13,12 @@ pub(crate) fn weave(at: usize, image: &[u8], request: Request) {
     let mut woven = io::large_buffer();
     let o = image_weaving::weave_image(image, &mut woven);
     match o {
-        Outcome::Number(n) => {
+        NumberAnswer::Number(n) => {
             if files::save_word(at, 3, slices::bytes(&woven, n)) {
                 lists::each(image, request);
             }
         }
-        Outcome::Refused(x) => lines::refusal(x),
+        NumberAnswer::Refused(x) => lines::refusal(x),
     }
 }
 
