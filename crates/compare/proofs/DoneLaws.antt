@@ -39,13 +39,13 @@ done-passed : (check : Reply) (rs : List Run) (first last old new first′ last�
     → PortionDone passed rs first last old new first′ last′ old′ new′ r → PortionDone check rs first last old new first′ last′ old′ new′ r
 done-passed check rs first last old new first′ last′ old′ new′ r e o = rw e o
 
--- the same by the verdict that the code has in hand
+-- the same by the verdict that the code has in hand: it is a refusal, or the runs were put
 module _ (check : Reply) (v : Verdict) (p : verdictReply v ≡ check) where
   pub stopped : {x : Refusal} (rs : List Run) (first last old new : List ℕ) → v ≡ Verdict.Refused x
       → PortionDone check rs first last old new first last old new (record { count = 0; ending = Ending.Refused x })
   stopped {x} rs first last old new e = done-refused check x rs first last old new (sym p ∙ ap verdictReply e)
 
-  -- with the numbers that a miss counts as on each side
+  -- (with the number that a miss counts as on each side)
   pub went-on : v ≡ Verdict.Fine → (w start : ℕ) (olds news : List Rule) (oldDefault newDefault : Default) (m n : ℕ)
       → m ≡ missNumber oldDefault → n ≡ missNumber newDefault → (begin last old new begin′ last′ old′ new′ : List ℕ) (r : Compared)
       → PortionDone passed (differences w (λ h. first olds h m) (λ h. first news h n) start) begin last old new begin′ last′ old′ new′ r
@@ -59,8 +59,8 @@ pub compare-without : (w : ℕ) (oc ov od nc nv nd : List ℕ) (start : ℕ) (fi
     ↔ OutcomesCompared w oc ov od Default.Absent nc nv nd Default.Absent start first last old new first′ last′ old′ new′ r
 compare-without w oc ov od nc nv nd start first last old new first′ last′ old′ new′ r =
     let e = check-without w oc ov od nc nv nd start (length first) (length last) (length old) (length new) in
-    (subst Left e, subst⁻¹ Left e)
+    (subst Done e, subst⁻¹ Done e)
   where
-    Left : Reply → Type 0
-    Left check =
+    Done : Reply → Type 0
+    Done check =
         PortionDone check (differences w (answer (rulesOf oc ov od)) (answer (rulesOf nc nv nd)) start) first last old new first′ last′ old′ new′ r

@@ -65,9 +65,8 @@ module _ (w : ℕ) (oc ov od : List ℕ) (old : Default) (nc nv nd : List ℕ) (
       ∙ ap (λ (x : Reply). (checkList w 1 oc ov od then checkList w 2 nc nv nd) then x)
       (sym (then-assoc (defaultCheck 1 old) (defaultCheck 2 new) (portionCheck w start a b c d)))
 
-  -- Checks that are not a refusal are passed, and then both lists are sound, neither default is 65,535, and the rest is in order.
+  -- Where the checks are not a refusal, both lists are sound, the defaults pass, and so does the rest.
   pub record ComparisonReady : Type 0 where
-    pub fine : outcomesCheck w oc ov od old nc nv nd new start a b c d ≡ passed
     pub old-list : Sound w oc ov od
     pub new-list : Sound w nc nv nd
     pub old-default : defaultCheck 1 old ≡ passed
@@ -86,7 +85,6 @@ module _ (w : ℕ) (oc ov od : List ℕ) (old : Default) (nc nv nd : List ℕ) (
       let news = default-given 2 new (then-second (defaultCheck 1 old) _ _ (defaults .1)) in
       let left = portion-given w start a b c d (then-second (defaultCheck 1 old then defaultCheck 2 new) _ ns rest) in
       record {
-        fine = in-order ∙ then-next _ _ (then-next _ _ one ∙ two) ∙ then-next _ _ (then-next _ _ olds ∙ news) ∙ left;
         old-list = list-sound w 1 oc ov od one;
         new-list = list-sound w 2 nc nv nd two;
         old-default = olds;
@@ -94,18 +92,18 @@ module _ (w : ℕ) (oc ov od : List ℕ) (old : Default) (nc nv nd : List ℕ) (
         portion = portion-ready w start a b c d left;
       }
 
-  -- Two lists that pass and defaults that are not 65,535: what is left of the checks.
-  pub sides-passed : checkList w 1 oc ov od ≡ passed → checkList w 2 nc nv nd ≡ passed
+  -- Two lists that pass: what is left of the checks.
+  pub lists-passed : checkList w 1 oc ov od ≡ passed → checkList w 2 nc nv nd ≡ passed
       → outcomesCheck w oc ov od old nc nv nd new start a b c d ≡ (defaultCheck 1 old then defaultCheck 2 new then portionCheck w start a b c d)
-  sides-passed p q =
+  lists-passed p q =
       in-order ∙ then-next _ _ (then-next _ _ p ∙ q) ∙ then-assoc (defaultCheck 1 old) (defaultCheck 2 new) (portionCheck w start a b c d)
 
-  -- Two lists that pass, defaults that are not 65,535, a start of the width and equally many places, at least one, two numbers to a
-  -- header: the call is not refused.
+  -- Two lists that pass, defaults that do, a start of the width and equally many places, at least one, two numbers to a header: the call is
+  -- not refused.
   pub valid-not-refused : Sound w oc ov od → Sound w nc nv nd → defaultCheck 1 old ≡ passed → defaultCheck 2 new ≡ passed → start < 2 ^ w
       → a ≡ b → a ≡ c * 2 → a ≡ d * 2 → 1 ≤ c → outcomesCheck w oc ov od old nc nv nd new start a b c d ≡ passed
   valid-not-refused S T y z l p q s n =
-      sides-passed (sound-list w 1 oc ov od S) (sound-list w 2 nc nv nd T)
+      lists-passed (sound-list w 1 oc ov od S) (sound-list w 2 nc nv nd T)
       ∙ then-next _ _ y
       ∙ then-next _ _ z
       ∙ portion-fine w start a b c d (lt-ltb _ _ l) p (omega arith) (omega arith) (omega arith) (λ e. omega arith)

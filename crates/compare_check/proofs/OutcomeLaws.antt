@@ -28,20 +28,20 @@ use Rattle.compare_check.specs.Outcomes.{missNumber, outcome, orDefault}
 use Rattle.compare_check.specs.Checks.{defaultCheck}
 
 -- Where a rule is hit the outcome is its decision, whatever the default.
-pub outcome-hit : (side : Default) (rs : List Rule) (h i : ℕ) → Hits rs h i → outcome side rs h ≡ ruleAt rs i .decision
-outcome-hit side rs h i x = hits-first rs h i (missNumber side) x
+pub outcome-hit : (default : Default) (rs : List Rule) (h i : ℕ) → Hits rs h i → outcome default rs h ≡ ruleAt rs i .decision
+outcome-hit default rs h i x = hits-first rs h i (missNumber default) x
 
 -- Where none is hit it is the default, else no match.
-pub outcome-miss : (side : Default) (rs : List Rule) (h : ℕ) → Misses rs h → outcome side rs h ≡ missNumber side
-outcome-miss side rs h m = misses-first rs h (missNumber side) m
+pub outcome-miss : (default : Default) (rs : List Rule) (h : ℕ) → Misses rs h → outcome default rs h ≡ missNumber default
+outcome-miss default rs h m = misses-first rs h (missNumber default) m
 
 -- A decision is not taken for no match.
 decision-answered : (d : ℕ) → d < noMatch → Gives (d ∷ []) ≡ answered d
 decision-answered d l = sym (ap (λ (t : Bool). givesIf t (Gives []) (Gives (d ∷ []))) (ne-eqb d noMatch (omega arith)))
 
 -- What is found of a header, with the default in the place of no match, is the outcome.
-found-outcome : (w s : ℕ) (side : Default) (rs : List Rule) (h : ℕ) → All (Valid w) rs → defaultCheck s side ≡ passed
-    → orDefault side (decided (firstHit rs h)) ≡ answered (outcome side rs h)
+found-outcome : (w s : ℕ) (default : Default) (rs : List Rule) (h : ℕ) → All (Valid w) rs → defaultCheck s default ≡ passed
+    → orDefault default (decided (firstHit rs h)) ≡ answered (outcome default rs h)
 unfolding defaultCheck
 found-outcome w s Default.Absent rs h a e = decided-answered w rs h a
 found-outcome w s (Default.Decision d) rs h a e =
@@ -59,15 +59,15 @@ found-outcome w s (Default.Decision d) rs h a e =
     ∙ sym (ap answered (outcome-miss (Default.Decision d) rs h m)))
 
 -- A header of the width, looked up in a list that passes: what the lookup decides, or the default, is the outcome.
-pub looked-outcome : (w s : ℕ) (side : Default) (cs vs ds : List ℕ) (h : ℕ) → checkList w 1 cs vs ds ≡ passed → defaultCheck s side ≡ passed → h < 2 ^ w
-    → orDefault side (decided (lookedUp w cs vs ds h)) ≡ answered (outcome side (rulesOf cs vs ds) h)
-looked-outcome w s side cs vs ds h p e l =
-    ap (λ r. orDefault side (decided r)) (looked-found w cs vs ds h p l)
-    ∙ found-outcome w s side (rulesOf cs vs ds) h (list-sound w 1 cs vs ds p .valid) e
+pub looked-outcome : (w s : ℕ) (default : Default) (cs vs ds : List ℕ) (h : ℕ) → checkList w 1 cs vs ds ≡ passed → defaultCheck s default ≡ passed → h < 2 ^ w
+    → orDefault default (decided (lookedUp w cs vs ds h)) ≡ answered (outcome default (rulesOf cs vs ds) h)
+looked-outcome w s default cs vs ds h p e l =
+    ap (λ r. orDefault default (decided r)) (looked-found w cs vs ds h p l)
+    ∙ found-outcome w s default (rulesOf cs vs ds) h (list-sound w 1 cs vs ds p .valid) e
 
 -- Every other header is refused, whatever the default.
-looked-outside : (w : ℕ) (side : Default) (cs vs ds : List ℕ) (h : ℕ) → checkList w 1 cs vs ds ≡ passed → 2 ^ w ≤ h
-    → orDefault side (decided (lookedUp w cs vs ds h)) ≡ decided (lookedUp w cs vs ds h)
+looked-outside : (w : ℕ) (default : Default) (cs vs ds : List ℕ) (h : ℕ) → checkList w 1 cs vs ds ≡ passed → 2 ^ w ≤ h
+    → orDefault default (decided (lookedUp w cs vs ds h)) ≡ decided (lookedUp w cs vs ds h)
 looked-outside w Default.Absent cs vs ds h p l = refl
 looked-outside w (Default.Decision d) cs vs ds h p l =
     ap (λ r. orDefault (Default.Decision d) (decided r)) (looked-past w cs vs ds h p l) ∙ sym (ap decided (looked-past w cs vs ds h p l))

@@ -1,4 +1,4 @@
--- Laws of what is checked after the sides of a comparison: which refusal each test gives, and what is known once all are passed.
+-- Laws of what a comparison checks last: which refusal each test gives, and what is known once all are passed.
 use Prim.Native.Nat.{ℕ, _*_, _/_, _%_, _^_, _<_}
 use mathlib.Core.Path.{_≡_, sym, _∙_}
 use mathlib.Core.List.{[]}

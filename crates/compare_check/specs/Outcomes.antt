@@ -1,4 +1,4 @@
--- What a header gets from one side of a comparison: a list of rules, and a default or none (02, request 04).
+-- What a header gets from one side of a comparison: a list of rules, and a default or none (request 04).
 use Prim.Native.Nat.{ℕ}
 use mathlib.Core.List.{List, [], _∷_}
 use Rattle.rules.specs.Rule.{Rule}
@@ -14,7 +14,7 @@ missNumber (Default.Decision d) = d
 -- The outcome of a list at a header: the decision of the first rule that matches, else the default, else no match. That a default counts
 -- nowhere but where no rule matches are the laws `outcome-hit` and `outcome-miss`. Without a default it is the list's answer.
 abbrev pub outcome : Default → List Rule → ℕ → ℕ
-outcome side rs h = first rs h (missNumber side)
+outcome default rs h = first rs h (missNumber default)
 
 -- ---- the same of a lookup
 

@@ -65,7 +65,7 @@ fn default_verdict(side: usize, default: Default) -> Verdict
     Verdict::Fine
 }
 
-// What is checked after the sides: 6 of the start, 2 of the four result slices' lengths, 7.
+// What is checked last: 6 of the start, 2 of the four result slices' lengths, 7.
 fn portion_verdict(
     width: u32,
     start: Word,

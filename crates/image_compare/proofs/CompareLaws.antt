@@ -15,7 +15,7 @@ use Rattle.rules.proofs.ReplyLaws.{then-next, then-stop, then-second, need-yes,
 use Rattle.compare_check.specs.declared.Default.{Default}
 use Rattle.compare_check.specs.Outcomes.{outcome}
 use Rattle.compare_check.specs.Checks.{portionCheck, defaultCheck}
-use Rattle.compare_check.proofs.OrderLaws.{sides-passed}
+use Rattle.compare_check.proofs.OrderLaws.{lists-passed}
 use Rattle.compare.specs.declared.Compared.{Compared}
 use Rattle.compare.specs.declared.Ending.{Ending}
 use Rattle.compare.specs.Runs.{Run, differences}
@@ -81,7 +81,7 @@ pub rest-compared : (w : ℕ) (oc ov od : List ℕ) (oldDefault : Default) (nc n
     → RestCompared w (rulesOf oc ov od) oldDefault new j newDefault start first last olds news first′ last′ olds′ news′ r
 rest-compared w oc ov od oldDefault nc nv nd new j newDefault start first last olds news first′ last′ olds′ news′ r e f p q g k z o =
     done-same first last olds news first′ last′ olds′ news′ r
-    (sides-passed w oc ov od oldDefault nc nv nd newDefault start (length first) (length last) (length olds) (length news) p
+    (lists-passed w oc ov od oldDefault nc nv nd newDefault start (length first) (length last) (length olds) (length news) p
     (subst⁻¹ (λ (u : ℕ). checkList u 2 nc nv nd ≡ passed) f q)
     ∙ sym (then-next _ _ e ∙ then-next _ _ (need-yes (eqb w (widthIn new)) 16 0 0 (eq-eqb _ _ f))))
     (ap (λ (l : List Rule). differences w (outcome oldDefault (rulesOf oc ov od)) (outcome newDefault l) start) g)

@@ -1,5 +1,5 @@
 -- What the comparison of lists of two images replies and leaves: each image's checks in document 01's order, then as the
--- comparison of the two lists (01, Image; Refusal numbers, 15 and 16; the bench program; 02, request 04, for the defaults).
+-- comparison of the two lists (01, Image; Refusal numbers, 15 and 16; the bench program; the defaults by request 04).
 use Prim.Native.Nat.{ℕ}
 use mathlib.Core.List.{List, [], _∷_}
 use lib.Dec.{eqb}
