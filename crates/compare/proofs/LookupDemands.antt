@@ -8,8 +8,8 @@ use lib.ListN.{length}
 use Rattle.words.specs.Halves.{num}
 use Rattle.rules.specs.declared.Wire.{Wire}
 use Rattle.rules.specs.Slices.{rulesOf}
-use Rattle.rules.specs.Replies.{Gives, passed}
-use Rattle.rules.specs.Calls.{checkList, lookedUp, decided, answered}
+use Rattle.rules.specs.Replies.{Gives}
+use Rattle.rules.specs.Calls.{lookedUp, decided, answered}
 use Rattle.rules.proofs.CheckLaws.{sound-list}
 use Rattle.compare_check.specs.declared.Default.{Default}
 use Rattle.compare_check.specs.Outcomes.{outcome, orDefault}
@@ -18,7 +18,7 @@ use Rattle.compare_check.proofs.OrderLaws.{comparison-ready}
 use Rattle.compare_check.proofs.OutcomeLaws.{looked-outcome, outcomes-differently}
 use Rattle.compare.specs.declared.Ending.{Ending}
 use Rattle.compare.specs.declared.Compared.{Compared}
-use Rattle.compare.specs.Runs.{Run, differences}
+use Rattle.compare.specs.Runs.{Run}
 use Rattle.compare.specs.Demand.{Stands, listedRuns}
 use Rattle.compare.specs.Calls.{OutcomesCompared, Comparison}
 use Rattle.compare.proofs.DoneLaws.{compare-without}

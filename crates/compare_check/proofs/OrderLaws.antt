@@ -2,16 +2,15 @@
 -- defaults they are those of a comparison of two lists.
 use Prim.Native.Nat.{ℕ, _*_, _^_, _≤_, _<_}
 use mathlib.Core.Path.{_≡_, refl, sym, ap, _∙_}
-use mathlib.Core.List.{List, []}
-use mathlib.Core.Bool.{Bool, true, false}
+use mathlib.Core.List.{List}
 use native.Mathlib.Omega.{arith}
 use lib.Dec.{ltb, leb}
 use borrow.Author.Tests.{lt-ltb, le-ltb}
 use Rattle.rules.specs.Rules.{noMatch}
-use Rattle.rules.specs.Replies.{Reply, Gives, Refuses, passed, need, _then_}
+use Rattle.rules.specs.Replies.{Reply, Gives, Refuses, passed, _then_}
 use Rattle.rules.specs.Checks.{widthCheck, listCheck, headerCheck, roomCheck, Sound}
 use Rattle.rules.specs.Calls.{checkList}
-use Rattle.rules.proofs.ReplyLaws.{then-next, then-assoc, then-second, first-gives, gives-refuses, need-yes, need-no}
+use Rattle.rules.proofs.ReplyLaws.{then-next, then-assoc, then-second, first-gives, need-yes, need-no, Bare, bare-need, bare-then, bare-first}
 use Rattle.rules.proofs.CheckLaws.{list-sound, list-given, sound-list}
 use Rattle.compare_check.specs.declared.Default.{Default}
 use Rattle.compare_check.specs.Checks.{resultsCheck, portionCheck, compareCheck, defaultCheck, outcomesCheck}
@@ -20,11 +19,6 @@ use Rattle.compare_check.proofs.PortionLaws.{PortionReady, portion-read
 twice : (x a b p : Reply) → (((x then a) then (x then b)) then p) ≡ (x then (a then (b then p)))
 twice (Gives ns) a b p = then-assoc a b p
 twice (Refuses n l r) a b p = refl
-
--- a check that is not a refusal has no values
-need-given : (t : Bool) (n l r : ℕ) {ns : List ℕ} → need t n l r ≡ Gives ns → need t n l r ≡ passed
-need-given true n l r e = refl
-need-given false n l r e = absurd (gives-refuses (sym e))
 
 -- a default by its two cases, and the second by its number
 module _ (side : ℕ) (default : Default) where
@@ -41,17 +35,14 @@ module _ (side : ℕ) (default : Default) where
     unfolding defaultCheck
     default-taken l n = ap (defaultCheck side) e ∙ need-yes _ 5 side 0 (lt-ltb d noMatch (omega arith))
 
-default-given : (side : ℕ) (default : Default) {ns : List ℕ} → defaultCheck side default ≡ Gives ns → defaultCheck side default ≡ passed
+bare-default : (side : ℕ) (default : Default) → Bare (defaultCheck side default)
 unfolding defaultCheck
-default-given side Default.Absent e = refl
-default-given side (Default.Decision d) e = need-given (ltb d noMatch) 5 side 0 e
+bare-default side Default.Absent ns e = refl
+bare-default side (Default.Decision d) ns e = bare-need (ltb d noMatch) 5 side 0 ns e
 
-portion-given : (w start a b c d : ℕ) {ns : List ℕ} → portionCheck w start a b c d ≡ Gives ns → portionCheck w start a b c d ≡ passed
+bare-portion : (w start a b c d : ℕ) → Bare (portionCheck w start a b c d)
 unfolding portionCheck roomCheck
-portion-given w start a b c d {ns} e =
-    let s = then-second (headerCheck w start) _ ns e in
-    let p = need-given (leb 1 c) 7 0 0 (then-second (resultsCheck a b c d) _ ns s) in
-    e ∙ sym (then-second (resultsCheck a b c d) _ ns s) ∙ p
+bare-portion w start a b c d = bare-then (headerCheck w start) _ (bare-then (resultsCheck a b c d) _ (bare-need (leb 1 c) 7 0 0))
 
 module _ (w : ℕ) (oc ov od : List ℕ) (old : Default) (nc nv nd : List ℕ) (new : Default) (start a b c d : ℕ) where
   -- document 01's order is the order of the code, which checks the width with each list
@@ -81,9 +72,9 @@ module _ (w : ℕ) (oc ov od : List ℕ) (old : Default) (nc nv nd : List ℕ) (
       let defaults = first-gives _ _ rest in
       let one = list-given w 1 oc ov od (first-gives _ _ (lists .1) .1) in
       let two = list-given w 2 nc nv nd (then-second (checkList w 1 oc ov od) _ _ (lists .1)) in
-      let olds = default-given 1 old (first-gives _ _ (defaults .1) .1) in
-      let news = default-given 2 new (then-second (defaultCheck 1 old) _ _ (defaults .1)) in
-      let left = portion-given w start a b c d (then-second (defaultCheck 1 old then defaultCheck 2 new) _ ns rest) in
+      let olds = bare-first _ _ (bare-default 1 old) _ (defaults .1) in
+      let news = bare-default 2 new _ (then-second (defaultCheck 1 old) _ _ (defaults .1)) in
+      let left = bare-portion w start a b c d ns (then-second (defaultCheck 1 old then defaultCheck 2 new) _ ns rest) in
       record {
         old-list = list-sound w 1 oc ov od one;
         new-list = list-sound w 2 nc nv nd two;

@@ -4,9 +4,8 @@ use Prim.Native.Nat.{ℕ, _^_, _<_, _≤_}
 use mathlib.Core.Path.{_≡_, refl, sym, ap, _∙_}
 use mathlib.Core.Logic.{_≢_, _↔_}
 use mathlib.Core.List.{List, [], _∷_}
-use mathlib.Core.Bool.{Bool, true, false}
+use mathlib.Core.Bool.{Bool}
 use native.Mathlib.Omega.{arith}
-use native.Mathlib.Decide.{decLt}
 use lib.Dec.{ltb}
 use lib.ListN.{length}
 use borrow.Author.Tests.{ltb-true, ltb-false, ne-eqb}
@@ -22,7 +21,7 @@ use Rattle.rules.proofs.ReplyLaws.{need-passed}
 use Rattle.rules.proofs.CheckLaws.{list-sound}
 use Rattle.rules.proofs.RuleLaws.{position-le, valid-at}
 use Rattle.rules.proofs.HitLaws.{hits-first, misses-first, position-hits, end-misses, hit-reply, miss-reply, decided-answered}
-use Rattle.rules.proofs.AnswerLaws.{answered-once, looked-found, looked-past}
+use Rattle.rules.proofs.AnswerLaws.{differ-exactly, looked-found, looked-past}
 use Rattle.compare_check.specs.declared.Default.{Default}
 use Rattle.compare_check.specs.Outcomes.{missNumber, outcome, orDefault}
 use Rattle.compare_check.specs.Checks.{defaultCheck}
@@ -79,18 +78,9 @@ module _ (w : ℕ) (cs vs ds : List ℕ) (old : Default) (cs′ vs′ ds′ : Li
   -- two outcomes differ.
   pub outcomes-differently : (orDefault old (decided (lookedUp w cs vs ds h)) ≢ orDefault new (decided (lookedUp w cs′ vs′ ds′ h)))
       ↔ ((h < 2 ^ w) × (outcome old (rulesOf cs vs ds) h ≢ outcome new (rulesOf cs′ vs′ ds′) h))
-  outcomes-differently = (there (decLt h (2 ^ w)), back)
-    where
-      there : Dec (h < 2 ^ w) → orDefault old (decided (lookedUp w cs vs ds h)) ≢ orDefault new (decided (lookedUp w cs′ vs′ ds′ h))
-          → (h < 2 ^ w) × (outcome old (rulesOf cs vs ds) h ≢ outcome new (rulesOf cs′ vs′ ds′) h)
-      there (yes l) n =
-          (l, λ e. n (looked-outcome w 1 old cs vs ds h p y l ∙ ap answered e ∙ sym (looked-outcome w 2 new cs′ vs′ ds′ h q z l)))
-      there (no m) n =
-          absurd (n (looked-outside w old cs vs ds h p (omega arith)
-          ∙ ap decided (looked-past w cs vs ds h p (omega arith) ∙ sym (looked-past w cs′ vs′ ds′ h q (omega arith)))
-          ∙ sym (looked-outside w new cs′ vs′ ds′ h q (omega arith))))
-
-      back : (h < 2 ^ w) × (outcome old (rulesOf cs vs ds) h ≢ outcome new (rulesOf cs′ vs′ ds′) h)
-          → orDefault old (decided (lookedUp w cs vs ds h)) ≢ orDefault new (decided (lookedUp w cs′ vs′ ds′ h))
-      back x e =
-          x .1 (answered-once _ _ (sym (looked-outcome w 1 old cs vs ds h p y (x .0)) ∙ e ∙ looked-outcome w 2 new cs′ vs′ ds′ h q z (x .0)))
+  outcomes-differently =
+      differ-exactly w h _ _ _ _ (looked-outcome w 1 old cs vs ds h p y) (looked-outcome w 2 new cs′ vs′ ds′ h q z)
+      (λ l.
+      looked-outside w old cs vs ds h p l
+      ∙ ap decided (looked-past w cs vs ds h p l ∙ sym (looked-past w cs′ vs′ ds′ h q l))
+      ∙ sym (looked-outside w new cs′ vs′ ds′ h q l))

@@ -9,7 +9,7 @@ use lib.ListN.{length, getD, take, drop, length-drop, take-append-drop}
 use lib.Seq.{drop-drop, take-add, take-all}
 use Rattle.rules.specs.Lists.{All}
 use Rattle.rules.specs.Replies.{passed}
-use Rattle.rules.proofs.ReplyLaws.{then-second}
+use Rattle.rules.proofs.ReplyLaws.{then-second, bare-first}
 use Rattle.image_form.specs.Bytes.{le, numberIn, part, bytes}
 use Rattle.image_form.specs.Formats.{wordBytes, ruleSize}
 use Rattle.image_form.specs.declared.Entry.{Entry}
@@ -17,7 +17,7 @@ use Rattle.image_form.specs.Images.{Named, entryWith, ruleIn, rulesIn, entryIn,
 use Rattle.image_check.specs.Checks.{entryCheck, entriesCheck, contentsCheck, headCheck, imageCheck}
 use Rattle.image_form.proofs.FormatLaws.{rule-words}
 use Rattle.image_form.proofs.NumberLaws.{length-part}
-use Rattle.image_check.proofs.BareLaws.{bare-first, bare-entry, bare-head, bare-contents}
+use Rattle.image_check.proofs.BareLaws.{bare-entry, bare-head, bare-contents}
 use Rattle.image_check.proofs.HeadLaws.{entry-facts, head-facts}
 use Rattle.image_check.proofs.StepLaws.{contents-total}
 use Rattle.image.proofs.SeekLaws.{length-entries, length-rulesIn}

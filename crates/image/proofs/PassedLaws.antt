@@ -11,7 +11,7 @@ use Rattle.rules.specs.Rules.{Valid}
 use Rattle.rules.specs.Lists.{All}
 use Rattle.rules.specs.Replies.{passed}
 use Rattle.rules.specs.Checks.{widest, rulesCheck}
-use Rattle.rules.proofs.ReplyLaws.{then-second}
+use Rattle.rules.proofs.ReplyLaws.{then-second, bare-first}
 use Rattle.rules.proofs.CheckLaws.{rules-valid}
 use Rattle.image.specs.declared.places.Place.{Place}
 use Rattle.image_form.specs.Formats.{ruleSize}
@@ -19,7 +19,7 @@ use Rattle.image_form.specs.declared.Entry.{Entry}
 use Rattle.image_form.specs.Images.{entryIn, formatIn, widthIn, countIn, entriesOf, rulesIn, listsIn, listsOf}
 use Rattle.image_check.specs.Checks.{entryCheck, entriesCheck, listsCheck, headCheck, contentsCheck, bodiesCheck, imageCheck}
 use Rattle.image.specs.Places.{placeIn, placeAt, pickPlace, placeOf, listWith}
-use Rattle.image_check.proofs.BareLaws.{bare-first, bare-entry, bare-rules, bare-contents}
+use Rattle.image_check.proofs.BareLaws.{bare-entry, bare-rules, bare-contents}
 use Rattle.image_check.proofs.HeadLaws.{entry-facts, head-narrow}
 use Rattle.image.proofs.SeekLaws.{image-facts, place-start, place-here, length-rulesIn}
 

@@ -16,7 +16,7 @@ use Rattle.rules.specs.Lists.{All}
 use Rattle.rules.specs.Replies.{Reply, Gives, Refuses, passed, _then_, refusalReply, unlessRefused}
 use Rattle.rules.specs.Checks.{lengthsCheck, roomCheck}
 use Rattle.rules.specs.Calls.{checkList}
-use Rattle.rules.proofs.ReplyLaws.{then-next, then-second, gives-refuses, one-value}
+use Rattle.rules.proofs.ReplyLaws.{then-next, then-second, gives-refuses, one-value, Bare, bare-first, bare-then, bare-need}
 use Rattle.rules.proofs.CheckLaws.{sound-list, lengths-yes, room-yes, width-inside}
 use Rattle.rules.proofs.SliceLaws.{rules-length, rules-columns}
 use Rattle.image.specs.declared.NumberAnswer.{NumberAnswer}
@@ -25,7 +25,7 @@ use Rattle.image_check.specs.Checks.{imageCheck}
 use Rattle.image.specs.Places.{placeOf, listWith}
 use Rattle.image.specs.Calls.{idCheck, readReply, ReadOut, filled}
 use Rattle.image.specs.Replies.{numberReply}
-use Rattle.image_check.proofs.BareLaws.{Bare, bare-first, bare-then, bare-need, bare-image}
+use Rattle.image_check.proofs.BareLaws.{bare-image}
 use Rattle.image.proofs.PassedLaws.{length-with, list-facts}
 
 -- ---- rules in the first places of three slices, two numbers to a rule in the first two

@@ -11,7 +11,7 @@ use lib.Seq.{drop-drop}
 use Rattle.rules.specs.Rule.{Rule}
 use Rattle.rules.specs.Rules.{rule}
 use Rattle.rules.specs.Replies.{Reply, passed, unlessRefused}
-use Rattle.rules.proofs.ReplyLaws.{then-second}
+use Rattle.rules.proofs.ReplyLaws.{then-second, bare-first}
 use Rattle.image.specs.declared.places.Place.{Place}
 use Rattle.image_form.specs.Bytes.{part, le}
 use Rattle.image_form.specs.Formats.{wordBytes, ruleSize}
@@ -21,7 +21,7 @@ use Rattle.image_check.specs.Checks.{entryCheck, entriesCheck, headCheck, conte
 use Rattle.image.specs.Places.{placeIn, placeAt, pickPlace, placeOf, listWith}
 use Rattle.image.specs.Calls.{idCheck, bodyOf}
 use Rattle.image_form.proofs.FormatLaws.{rule-words}
-use Rattle.image_check.proofs.BareLaws.{bare-first, bare-image, bare-contents, bare-entry}
+use Rattle.image_check.proofs.BareLaws.{bare-image, bare-contents, bare-entry}
 use Rattle.image_check.proofs.HeadLaws.{entry-facts}
 use Rattle.image.proofs.SeekLaws.{image-facts, place-fits}
 use Rattle.image.proofs.BackLaws.{AreBytes, bytes-drop, rules-back}

@@ -1,35 +1,17 @@
--- Checks give no values: one that is passed before another is passed as such.
-use mathlib.Core.Path.{_≡_, refl, sym}
+-- The checks of an image give no values: one that is passed before another is passed as such.
+use mathlib.Core.Path.{refl}
 use mathlib.Core.List.{List, [], _∷_}
-use mathlib.Core.Bool.{Bool, true, false}
 use Prim.Native.Nat.{ℕ, _+_, _*_}
 use lib.Dec.{leb, eqb}
 use lib.ListN.{length, getD}
 use Rattle.rules.specs.Rule.{Rule}
-use Rattle.rules.specs.Replies.{Reply, Gives, Refuses, passed, need, _then_}
+use Rattle.rules.specs.Replies.{need, _then_}
 use Rattle.rules.specs.Checks.{sizeCheck, ruleCheck, rulesCheck}
-use Rattle.rules.proofs.ReplyLaws.{gives-refuses}
+use Rattle.rules.proofs.ReplyLaws.{Bare, bare-need, bare-then}
 use Rattle.image_form.specs.Formats.{ruleSize, formatCheck, rangeCheck}
 use Rattle.image_form.specs.declared.Entry.{Entry}
 use Rattle.image_form.specs.Images.{Named, formatIn, widthIn, countIn, entriesOf, listsOf}
 use Rattle.image_check.specs.Checks.{headCheck, entryCheck, entriesCheck, contentsCheck, listsCheck, bodiesCheck, imageCheck}
-
--- where it gives anything, it is passed
-abbrev pub Bare : Reply → Type 0
-Bare a = (ns : List ℕ) → a ≡ Gives ns → a ≡ passed
-
-pub bare-need : (t : Bool) (n l r : ℕ) → Bare (need t n l r)
-bare-need true n l r ns e = refl
-bare-need false n l r ns e = absurd (gives-refuses (sym e))
-
-pub bare-then : (a b : Reply) → Bare b → Bare (a then b)
-bare-then (Gives ms) b f ns e = f ns e
-bare-then (Refuses n l r) b f ns e = absurd (gives-refuses (sym e))
-
--- the first of two checks, where the two give something
-pub bare-first : (a b : Reply) → Bare a → (ns : List ℕ) → (a then b) ≡ Gives ns → a ≡ passed
-bare-first (Gives ms) b f ns e = f ms refl
-bare-first (Refuses n l r) b f ns e = absurd (gives-refuses (sym e))
 
 pub bare-rules : (w l i : ℕ) (rs : List Rule) → Bare (rulesCheck w l i rs)
 unfolding rulesCheck

@@ -11,7 +11,7 @@ use Rattle.rules.specs.declared.Refusal.{Refusal}
 use Rattle.rules.specs.Slices.{rulesOf}
 use Rattle.rules.specs.Replies.{Reply, Gives, Refuses, passed, need, _then_, refusalReply}
 use Rattle.rules.specs.Calls.{checkList}
-use Rattle.rules.proofs.ReplyLaws.{then-next, then-stop, then-second, need-yes, need-no}
+use Rattle.rules.proofs.ReplyLaws.{then-next, then-stop, then-second, need-yes, need-no, bare-first}
 use Rattle.compare_check.specs.declared.Default.{Default}
 use Rattle.compare_check.specs.Outcomes.{outcome}
 use Rattle.compare_check.specs.Checks.{portionCheck, defaultCheck}
@@ -26,7 +26,7 @@ use Rattle.image_form.specs.Images.{widthIn}
 use Rattle.image_check.specs.Checks.{imageCheck}
 use Rattle.image.specs.Places.{listWith}
 use Rattle.image.specs.Calls.{idCheck}
-use Rattle.image_check.proofs.BareLaws.{bare-first, bare-image}
+use Rattle.image_check.proofs.BareLaws.{bare-image}
 use Rattle.image_compare.specs.Comparing.{firstRules, compareListsCheck, compareFirstCheck, ListsCompared, FirstCompared, listOutcomesCheck, firstOutcomesCheck, ListOutcomesCompared, FirstOutcomesCompared}
 use Rattle.image_compare.specs.Parts.{RestCompared}
 use Rattle.image_compare.proofs.FirstLaws.{first-list, first-told, first-check}

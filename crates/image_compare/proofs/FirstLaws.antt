@@ -5,7 +5,7 @@ use Prim.Native.Nat.{ℕ, _+_, _*_, _≤_}
 use native.Mathlib.Omega.{arith}
 use lib.ListN.{drop}
 use Rattle.rules.specs.Replies.{Reply, Gives, Refuses, passed, _then_}
-use Rattle.rules.proofs.ReplyLaws.{need-yes}
+use Rattle.rules.proofs.ReplyLaws.{need-yes, Bare}
 use Rattle.image_form.specs.declared.Entry.{Entry}
 use Rattle.image_form.specs.Images.{entryWith, formatIn, countIn, entriesOf, rulesIn, listsIn, listsOf}
 use Rattle.image_form.specs.Parts.{entryFrom}
@@ -13,7 +13,7 @@ use Rattle.image_check.specs.Checks.{imageCheck}
 use Rattle.image.specs.Places.{placeOf, listWith}
 use Rattle.image.specs.Calls.{entryNumber, idCheck}
 use Rattle.image_form.proofs.PartLaws.{entry-there}
-use Rattle.image_check.proofs.BareLaws.{Bare, bare-image}
+use Rattle.image_check.proofs.BareLaws.{bare-image}
 use Rattle.image_check.proofs.StepLaws.{entries-step}
 use Rattle.image.proofs.SeekLaws.{image-facts, entry-stands}
 use Rattle.image.proofs.PassedLaws.{firstEntry, first-within, first-found, first-body}

@@ -17,7 +17,7 @@ use Rattle.rules.specs.Slices.{caresOf, valuesOf, decisionsOf}
 use Rattle.rules.specs.Replies.{Reply, Gives, passed, need, _then_, unlessRefused}
 use Rattle.rules.specs.Checks.{roomCheck}
 use Rattle.rules.specs.Calls.{checkList, lookedUp, decided}
-use Rattle.rules.proofs.ReplyLaws.{then-second, one-value}
+use Rattle.rules.proofs.ReplyLaws.{then-second, one-value, bare-first}
 use Rattle.rules.proofs.SliceLaws.{rules-columns}
 use Rattle.rules.proofs.AnswerLaws.{decide-alike}
 use Rattle.weaving.specs.declared.Tally.{Tally}
@@ -30,7 +30,7 @@ use Rattle.image_form.specs.Formats.{ruleSize}
 use Rattle.image_form.specs.declared.Entry.{Entry}
 use Rattle.image_form.specs.Images.{Named, formatIn, widthIn, countIn, entriesOf, listsIn, listsOf, bytesOf}
 use Rattle.image_check.specs.Checks.{imageCheck}
-use Rattle.image_check.proofs.BareLaws.{bare-first, bare-image}
+use Rattle.image_check.proofs.BareLaws.{bare-image}
 use Rattle.image.specs.declared.NumberAnswer.{NumberAnswer}
 use Rattle.image.specs.Places.{placeIn, placeOf, listWith}
 use Rattle.image.specs.Calls.{idCheck, filled}

@@ -12,7 +12,7 @@ use Rattle.rules.specs.declared.Verdict.{Verdict}
 use Rattle.rules.specs.Rule.{Rule}
 use Rattle.rules.specs.Slices.{rulesOf, careOf, valueOf, decisionOf, caresOf, valuesOf, decisionsOf, Lent}
 use Rattle.rules.specs.Replies.{Gives, passed}
-use Rattle.rules.proofs.ReplyLaws.{then-next, gives-refuses}
+use Rattle.rules.proofs.ReplyLaws.{then-next, gives-refuses, bare-first}
 use Rattle.rules.proofs.SliceLaws.{rules-append, rules-columns, rules-length}
 use Rattle.weaving.specs.declared.Tally.{Tally}
 use Rattle.weaving.specs.declared.Woven.{Woven}
@@ -24,7 +24,6 @@ use Rattle.image_form.specs.Images.{Named, named, entryIn, formatIn, widthIn, c
 use Rattle.image_form.specs.Parts.{entryFrom}
 use Rattle.image_form.proofs.PartLaws.{entry-there}
 use Rattle.image_check.specs.Checks.{imageCheck}
-use Rattle.image_check.proofs.BareLaws.{bare-first}
 use Rattle.image.specs.Places.{listWith}
 use Rattle.image.specs.Calls.{idCheck, readReply}
 use Rattle.image.proofs.SeekLaws.{image-facts}

@@ -9,7 +9,7 @@ use lib.Seq.{take-suc}
 use native.Mathlib.Numerals.{add-one}
 use Rattle.rules.specs.Replies.{passed}
 use Rattle.rules.specs.Checks.{rulesCheck}
-use Rattle.rules.proofs.ReplyLaws.{then-next, then-second}
+use Rattle.rules.proofs.ReplyLaws.{then-next, then-second, bare-first}
 use Rattle.rules.proofs.CheckLaws.{rules-valid, valid-rules}
 use Rattle.weaving.specs.Weave.{weave}
 use Rattle.weaving.proofs.Theorems.{never-longer, weave-keeps-valid}
@@ -17,7 +17,7 @@ use Rattle.image_form.specs.Formats.{ruleSize}
 use Rattle.image_form.specs.Images.{Named, named}
 use Rattle.image_form.proofs.FormatLaws.{rule-words, word-least}
 use Rattle.image_check.specs.Checks.{listsCheck}
-use Rattle.image_check.proofs.BareLaws.{bare-first, bare-rules}
+use Rattle.image_check.proofs.BareLaws.{bare-rules}
 use Rattle.image_writer.proofs.AgainLaws.{Rising, allRules, Carried}
 use Rattle.image_writer.proofs.ListLaws.{listAt}
 use Rattle.image_weaving.specs.Weaving.{wovenLists}

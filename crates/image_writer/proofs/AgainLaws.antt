@@ -16,7 +16,7 @@ use Rattle.rules.specs.Rules.{rule, Valid}
 use Rattle.rules.specs.Lists.{All}
 use Rattle.rules.specs.Replies.{passed}
 use Rattle.rules.specs.Checks.{rulesCheck}
-use Rattle.rules.proofs.ReplyLaws.{then-next, then-second}
+use Rattle.rules.proofs.ReplyLaws.{then-next, then-second, bare-first}
 use Rattle.rules.proofs.CheckLaws.{rules-valid}
 use Rattle.image_form.specs.Bytes.{le, numberIn, bytes}
 use Rattle.image_form.specs.Formats.{known, wordBytes, ruleSize, mostPlaces}
@@ -24,7 +24,7 @@ use Rattle.image_form.specs.declared.Entry.{Entry}
 use Rattle.image_form.specs.Images.{Named, entryWith, ruleIn, rulesIn, entryIn, entriesIn, listsIn, entriesOf, listsOf, ruleBytes, rulesBytes, bodiesBytes, entryBytes, entriesFor, contentsBytes, bytesOf}
 use Rattle.image_check.specs.Checks.{entriesCheck, listsCheck, contentsCheck, headCheck, bodiesCheck, imageCheck}
 use Rattle.image_form.proofs.FormatLaws.{rule-words, places-words, places-bytes}
-use Rattle.image_check.proofs.BareLaws.{bare-first, bare-rules}
+use Rattle.image_check.proofs.BareLaws.{bare-rules}
 use Rattle.image_check.proofs.HeadLaws.{entry-fine, head-fine}
 use Rattle.image_writer.proofs.PutLaws.{length-bytes, length-rulesBytes, length-contents}
 

@@ -12,7 +12,7 @@ use Rattle.rules.specs.Lists.{All}
 use Rattle.rules.specs.Replies.{passed, need}
 use Rattle.rules.specs.Checks.{sizeCheck}
 use Rattle.rules.specs.Slices.{rulesOf, careOf, valueOf, decisionOf, caresOf, valuesOf, decisionsOf}
-use Rattle.rules.proofs.ReplyLaws.{then-next, then-second, need-then, need-yes}
+use Rattle.rules.proofs.ReplyLaws.{then-next, then-second, need-then, need-yes, bare-first}
 use Rattle.image_form.specs.Bytes.{le}
 use Rattle.words.specs.Slices.{halvesOf}
 use Rattle.words.proofs.SliceLaws.{halves-length}
@@ -21,7 +21,7 @@ use Rattle.image_form.specs.declared.Entry.{Entry}
 use Rattle.image_form.specs.Images.{Named, named, listsIn, total, formatIn, countIn, widthIn, entriesIn, entriesOf, listsOf}
 use Rattle.image_check.specs.Checks.{entryCheck, entriesCheck, listsCheck, contentsCheck, headCheck, bodiesCheck, imageCheck}
 use Rattle.image_writer.specs.Writing.{sumOf, listsFrom, given, namesCheck, imageLength, writeCheck}
-use Rattle.image_check.proofs.BareLaws.{bare-first, bare-entry, bare-head, bare-contents}
+use Rattle.image_check.proofs.BareLaws.{bare-entry, bare-head, bare-contents}
 use Rattle.image_check.proofs.HeadLaws.{entry-facts, head-facts}
 use Rattle.image_check.proofs.StepLaws.{contents-total}
 use Rattle.image.proofs.SeekLaws.{length-rulesIn}

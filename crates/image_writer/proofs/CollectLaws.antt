@@ -11,7 +11,7 @@ use Rattle.rules.specs.Rule.{Rule}
 use Rattle.rules.specs.Slices.{Lent, decisionOf, caresOf, valuesOf, decisionsOf}
 use Rattle.rules.specs.Replies.{Gives, passed, need, unlessRefused}
 use Rattle.rules.specs.Checks.{lengthsCheck}
-use Rattle.rules.proofs.ReplyLaws.{then-next, then-second, need-then, one-value}
+use Rattle.rules.proofs.ReplyLaws.{then-next, then-second, need-then, one-value, bare-first}
 use Rattle.rules.proofs.CheckLaws.{lengths-yes}
 use Rattle.image.specs.declared.NumberAnswer.{NumberAnswer}
 use Rattle.image.specs.declared.Listed.{Listed}
@@ -20,7 +20,7 @@ use Rattle.image_check.specs.Checks.{imageCheck}
 use Rattle.image.specs.Places.{listWith}
 use Rattle.image.specs.Replies.{numberReply, listedReply}
 use Rattle.image.specs.Calls.{formatReply, widthReply, countReply, entryReply, readReply, ReadOut, filled}
-use Rattle.image_check.proofs.BareLaws.{bare-first, bare-image}
+use Rattle.image_check.proofs.BareLaws.{bare-image}
 use Rattle.image.proofs.BackLaws.{AreBytes, length-listsOf}
 use Rattle.image.proofs.Theorems.{rulesNamed, list-named}
 use Rattle.image.proofs.Unique.{one-number-answer}

@@ -12,14 +12,13 @@ use Rattle.rules.specs.Rule.{Rule}
 use Rattle.rules.specs.Slices.{rulesOf, Lent, caresOf, valuesOf, decisionsOf}
 use Rattle.rules.specs.Replies.{Reply, Gives, passed, need, _then_, unlessRefused}
 use Rattle.rules.specs.Checks.{lengthsCheck, roomCheck}
-use Rattle.rules.proofs.ReplyLaws.{then-next, then-second, one-value}
+use Rattle.rules.proofs.ReplyLaws.{then-next, then-second, one-value, Bare, bare-need, bare-then, bare-first}
 use Rattle.rules.proofs.SliceLaws.{rules-length, rules-columns, rules-care, rules-value, rules-decision}
 use Rattle.image.specs.declared.NumberAnswer.{NumberAnswer}
 use Rattle.image_form.specs.Formats.{formatCheck, rangeCheck}
 use Rattle.image_form.specs.Images.{Named, formatIn, widthIn, countIn, listsOf, bytesOf}
 use Rattle.image_check.specs.Checks.{listsCheck, imageCheck}
 use Rattle.image.specs.Calls.{formatReply, widthReply, countReply, entryReply, readReply, ReadOut, filled}
-use Rattle.image_check.proofs.BareLaws.{Bare, bare-need, bare-then, bare-first}
 use Rattle.image.proofs.BackLaws.{AreBytes}
 use Rattle.image.proofs.Theorems.{rulesNamed}
 use Rattle.image.proofs.Unique.{one-number-answer}

@@ -17,7 +17,7 @@ use Rattle.rules.specs.Checks.{widest, lengthsCheck, sizeCheck, rulesCheck, roo
 use Rattle.rules.specs.Calls.{checkList}
 use Rattle.rules.specs.Slices.{zipped, rulesOf, Lent}
 use Rattle.words.proofs.Tests.{true-and, and-true, same-test, eqb-yes, yes-eqb}
-use Rattle.rules.proofs.ReplyLaws.{then-next, then-refuses, fine-next, verdict-stop, need-yes, need-no, need-then, need-passed, then-second}
+use Rattle.rules.proofs.ReplyLaws.{then-next, then-refuses, fine-next, verdict-stop, need-yes, need-no, need-then, need-passed, then-second, Bare, bare-need, bare-then, bare-first}
 use Rattle.rules.proofs.CheckLaws.{list-rules, width-inside, lengths-values, lengths-decisions, lengths-yes, room-yes, room-no}
 use Rattle.rules.proofs.SliceLaws.{rules-take}
 use Rattle.rules.proofs.ZipLaws.{ap₃}
@@ -29,7 +29,6 @@ use Rattle.image_check.specs.Checks.{listsCheck}
 use Rattle.image_writer.specs.Writing.{sumOf, listsFrom, given, namesCheck, imageLength, givenCheck, shapeCheck, writeCheck}
 use Rattle.image_form.proofs.FormatLaws.{places-most}
 use Rattle.image_form.proofs.NumberLaws.{length-part}
-use Rattle.image_check.proofs.BareLaws.{Bare, bare-need, bare-then, bare-first}
 
 -- ---- counts
 

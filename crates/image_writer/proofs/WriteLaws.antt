@@ -14,7 +14,7 @@ use Rattle.rules.specs.declared.Verdict.{Verdict}
 use Rattle.rules.specs.Replies.{Reply, Gives, passed, need, _then_, verdictReply, refusalReply, unlessRefused}
 use Rattle.rules.specs.Checks.{roomCheck}
 use Rattle.rules.specs.Slices.{rulesOf}
-use Rattle.rules.proofs.ReplyLaws.{fine-next, refused-stop, need-then, then-second}
+use Rattle.rules.proofs.ReplyLaws.{fine-next, refused-stop, need-then, then-second, bare-first}
 use Rattle.rules.proofs.SliceLaws.{rules-length}
 use Rattle.image.specs.declared.NumberAnswer.{NumberAnswer}
 use Rattle.image_form.specs.Formats.{ruleSize}
@@ -24,7 +24,7 @@ use Rattle.image_check.specs.Checks.{listsCheck}
 use Rattle.image.specs.Calls.{filled}
 use Rattle.image_writer.specs.Writing.{sumOf, listsFrom, given, namesCheck, imageLength, shapeCheck, writeCheck, writeReply, Written}
 use Rattle.image_writer.specs.Putting.{over, entriesGiven}
-use Rattle.image_check.proofs.BareLaws.{bare-first, bare-lists}
+use Rattle.image_check.proofs.BareLaws.{bare-lists}
 use Rattle.image_writer.proofs.PutLaws.{over-over, over-imaged, length-contents, length-rulesBytes, length-given}
 use Rattle.image_writer.proofs.GivenLaws.{Shape, shape-facts, shape-passes, bare-shape, bare-names, names-sum, write-fine}
 

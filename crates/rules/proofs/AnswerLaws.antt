@@ -12,11 +12,11 @@ use borrow.Author.Tests.{eqb-true, lt-ltb, le-ltb}
 use Rattle.rules.specs.Rules.{noMatch, answer}
 use Rattle.rules.specs.Slices.{rulesOf, ruleAt}
 use Rattle.rules.specs.Found.{Hits, Misses}
-use Rattle.rules.specs.Replies.{Gives, Refuses, passed}
+use Rattle.rules.specs.Replies.{Reply, Gives, Refuses, passed}
 use Rattle.rules.specs.Checks.{headerCheck}
 use Rattle.rules.specs.Calls.{checkList, givesIf, firstHit, lookedUp, decided, answered}
 use Rattle.rules.proofs.ReplyLaws.{then-next, then-second, one-value}
-use Rattle.rules.proofs.CheckLaws.{list-sound, sound-list, list-first, header-yes, header-no}
+use Rattle.rules.proofs.CheckLaws.{list-sound, list-first, header-yes, header-no}
 use Rattle.rules.proofs.HitLaws.{reply-told, reply-hit, hit-reply, reply-miss, miss-reply, decided-answered}
 
 -- ---- an answer as a reply
@@ -36,11 +36,20 @@ answered-once a b = go (eqb a noMatch) (eqb b noMatch) refl refl
     go false true p q e = absurd (one-none e)
     go false false p q e = one-value e
 
--- ---- one list
+-- Two replies that are answers for a header of the width, and are the same for every other: they differ exactly where the header is of the
+-- width and the two answers differ.
+pub differ-exactly : (w h : ℕ) (x y : Reply) (a b : ℕ) → (h < 2 ^ w → x ≡ answered a) → (h < 2 ^ w → y ≡ answered b) → (2 ^ w ≤ h → x ≡ y)
+    → (x ≢ y) ↔ ((h < 2 ^ w) × (a ≢ b))
+differ-exactly w h x y a b p q s = (there (decLt h (2 ^ w)), back)
+  where
+    there : Dec (h < 2 ^ w) → x ≢ y → (h < 2 ^ w) × (a ≢ b)
+    there (yes l) n = (l, λ e. n (p l ∙ ap answered e ∙ sym (q l)))
+    there (no m) n = absurd (n (s (omega arith)))
 
--- A list that passes under one number passes under every other.
-pub list-renamed : (w l m : ℕ) (cs vs ds : List ℕ) → checkList w l cs vs ds ≡ passed → checkList w m cs vs ds ≡ passed
-list-renamed w l m cs vs ds e = sound-list w m cs vs ds (list-sound w l cs vs ds e)
+    back : (h < 2 ^ w) × (a ≢ b) → x ≢ y
+    back d e = d .1 (answered-once a b (sym (p (d .0)) ∙ e ∙ q (d .0)))
+
+-- ---- one list
 
 module _ (w : ℕ) (cs vs ds : List ℕ) (h : ℕ) where
   module _ (fine : checkList w 1 cs vs ds ≡ passed) where
@@ -114,13 +123,4 @@ module _ (w : ℕ) (cs vs ds cs′ vs′ ds′ : List ℕ) (h : ℕ) where
     -- differently.
     pub decide-differently : (decided (lookedUp w cs vs ds h) ≢ decided (lookedUp w cs′ vs′ ds′ h))
         ↔ ((h < 2 ^ w) × (answer (rulesOf cs vs ds) h ≢ answer (rulesOf cs′ vs′ ds′) h))
-    decide-differently = (there (decLt h (2 ^ w)), back)
-      where
-        there : Dec (h < 2 ^ w) → decided (lookedUp w cs vs ds h) ≢ decided (lookedUp w cs′ vs′ ds′ h)
-            → (h < 2 ^ w) × (answer (rulesOf cs vs ds) h ≢ answer (rulesOf cs′ vs′ ds′) h)
-        there (yes l) n = (l, λ e. n (decide-alike e))
-        there (no m) n = absurd (n (past-alike (omega arith)))
-
-        back : (h < 2 ^ w) × (answer (rulesOf cs vs ds) h ≢ answer (rulesOf cs′ vs′ ds′) h)
-            → decided (lookedUp w cs vs ds h) ≢ decided (lookedUp w cs′ vs′ ds′ h)
-        back d e = d .1 (answered-once _ _ (sym (looked-answered w cs vs ds h p (d .0)) ∙ e ∙ looked-answered w cs′ vs′ ds′ h q (d .0)))
+    decide-differently = differ-exactly w h _ _ _ _ (looked-answered w cs vs ds h p) (looked-answered w cs′ vs′ ds′ h q) past-alike

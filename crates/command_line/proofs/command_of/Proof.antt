@@ -1,5 +1,5 @@
 use Rattle.command_line.specs.Words.{commandOf}
-use mathlib.Core.Path.{_≡_, sym, _∙_}
+use mathlib.Core.Path.{sym, _∙_}
 use borrow.Author.Needs.{needs}
 use Rattle.command_line.proofs.command_of.Statement.{statement}
 use Rattle.command_line.proofs.command_of.Tie as tie
