@@ -110,9 +110,9 @@ class Maker:
                 texts.append(self.text(width, stars))
         return texts
 
-    def some(self, most=12):
-        """How many rules: most often few."""
-        return self.random.randint(0, self.pick(2, 4, 6, most, most))
+    def some(self, most=12, least=0):
+        """How many rules: most often few. A list of an image has at least 1."""
+        return self.random.randint(least, self.pick(2, 4, 6, most, most))
 
     def list_of(self, width, count):
         texts = self.patterns(width, count)
@@ -470,7 +470,7 @@ def good_image(make):
     width = make.width()
     lists = make.pick(1, 1, 2, 3, 5, 16)
     ids = sorted(make.random.sample(range(make.pick(20, 65536)), lists))
-    counts, list_of = [make.some(6) for _ in range(lists)], make.list_of
+    counts, list_of = [make.some(6, 1) for _ in range(lists)], make.list_of
     if make.chance(1):
         counts[0], list_of = make.pick(1023, 1024), make.prefix_list
     return format_for(make, width), width, counts, ids, list_of(width, sum(counts))
@@ -486,15 +486,49 @@ def put_number(image, at, size, number):
     image[at : at + size] = (number % 256**size).to_bytes(size, "little")
 
 
+def bad_entry(make, image, k, rule, field):
+    """The offset, count or id of entry k of the contents damaged."""
+    at, size = spot(make, image, k, field)
+    number = model.number(image, at, size)
+    if field == "offset":
+        number += make.pick(-rule, -1, 1, rule, 2**31, 2**32 - 1)
+    elif field == "count":
+        number = make.pick(number + make.pick(-1, 1, 2), 1024, 1025, 65535)
+    else:
+        number = make.pick(0, 65535, number + make.pick(-1, 1))
+    put_number(image, at, size, number)
+
+
+def no_rules(make, image, k, rule):
+    """The count of entry k put to 0; most often the list's body goes too and the later ones start so much earlier, so that nothing
+    else is wrong."""
+    at, size = spot(make, image, k, "count")
+    length = rule * model.number(image, at, size)
+    put_number(image, at, size, 0)
+    if make.chance(70):
+        at, size = spot(make, image, k, "offset")
+        start = model.number(image, at, size)
+        del image[start : start + length]
+        for later in range(k + 1, image[2]):
+            at, size = spot(make, image, later, "offset")
+            put_number(image, at, size, model.number(image, at, size) - length)
+
+
 def bad_image(make, image):
-    """One field damaged, a byte changed, or the end cut or lengthened."""
+    """One field damaged, a byte changed, the end cut or lengthened, or a list without rules, often with a second fault in its entry
+    or in another one."""
     image = bytearray(image)
     lists = image[2]
     word = model.WORD.get(image[0], 16)
     rule = 2 * word + 2
     k = make.random.randrange(lists)
     fault = make.random.randrange(14)
-    if fault == 0:
+    if fault < 10 and make.chance(17):
+        no_rules(make, image, k, rule)
+        if make.chance(50):
+            other = make.pick(k, make.random.randrange(lists))
+            bad_entry(make, image, other, rule, make.pick("offset", "id", "id" if other == k else "count"))
+    elif fault == 0:
         image[0] = make.pick(0, 1, 2, 3, 255)
     elif fault == 1:
         image[1] = make.pick(0, 64, 65, 128, 129, 255, max(1, image[1] - 1), (image[1] + 1) % 256)
@@ -502,15 +536,8 @@ def bad_image(make, image):
         image[2] = make.pick(0, 17, 255, lists - 1, lists + 1)
     elif fault == 3:
         image[3] = make.pick(1, 255)
-    elif fault == 4:
-        at, size = spot(make, image, k, "offset")
-        put_number(image, at, size, model.number(image, at, size) + make.pick(-rule, -1, 1, rule, 2**31, 2**32 - 1))
-    elif fault == 5:
-        at, size = spot(make, image, k, "count")
-        put_number(image, at, size, make.pick(model.number(image, at, size) + make.pick(-1, 1, 2), 1024, 1025, 65535))
-    elif fault == 6:
-        at, size = spot(make, image, k, "id")
-        put_number(image, at, size, make.pick(0, 65535, model.number(image, at, size) + make.pick(-1, 1)))
+    elif fault in (4, 5, 6):
+        bad_entry(make, image, k, rule, ("offset", "count", "id")[fault - 4])
     elif fault == 7:
         del image[make.random.randrange(len(image)) :]
     elif fault == 8:
@@ -566,24 +593,39 @@ def tally(make):
     return "tally image %s id %d" % (numbers_said(image), asked_id(make, lists))
 
 
+def no_rules_written(counts, k, rules):
+    """The counts and the rules with no rule left in list k: its rules go to the list before it, or of the first one to the last; those
+    of a single list are gone. The counts still add up."""
+    if len(counts) == 1:
+        return [0], slices_of([])
+    counts = counts[:]
+    counts[k - 1], counts[k] = (counts[k - 1] + counts[k]) % 65536, 0
+    return counts, rules
+
+
 def bad_writing(make, format, width, counts, ids, rules):
     counts, ids = counts[:], ids[:]
-    fault = make.random.randrange(8)
+    fault = make.random.randrange(9)
     k = make.random.randrange(min(len(ids), len(counts)))
     if fault == 0:
         width = make.bad_width(width)
     elif fault == 1:
         make.pick(counts, ids).append(make.pick(0, 1))
     elif fault == 2:
-        counts[k] = (counts[k] + make.pick(1, 65535, 1025)) % 65536
+        counts[k] = make.pick(0, (counts[k] + make.pick(1, 65535, 1025)) % 65536)
     elif fault == 3:
         ids[k] = make.pick(0, ids[k - 1], 65535)
     elif fault == 4:
-        counts, ids = counts + [0] * 17, ids + list(range(65519 - 17, 65519))
+        counts, ids = counts + [1] * 17, ids + list(range(65519 - 17, 65519))
+        rules = [slice + [0] * length for slice, length in zip(rules, (34, 34, 17))]
     elif fault == 5:
         counts, ids, rules = [], [], ([], [], [])
     elif fault == 6:
         format = make.pick(0, 1, 3, 18, 255)
+    elif fault == 7:
+        counts, rules = no_rules_written(counts, k, rules)
+        if make.chance(30):
+            ids[k] = make.pick(0, ids[k - 1], 65535)
     else:
         rules = make.bad_list(width if 1 <= width <= WIDEST else WIDEST, rules)
     return format, width, counts, ids, rules
@@ -616,7 +658,7 @@ def some_lists(make, width):
     """Lists by their ids; seldom a long one among them."""
     ids = make.random.sample(range(make.pick(20, 65536)), make.pick(1, 1, 2, 3, 3, 16))
     list_of, most = (make.prefix_list, 30) if make.chance(15) else (make.list_of, 10)
-    lists = {id: list_of(width, make.some(most)) for id in ids}
+    lists = {id: list_of(width, make.some(most, 1)) for id in ids}
     if make.chance(1):
         lists[ids[0]] = make.prefix_list(width, make.random.randint(100, model.LONGEST))
     return lists
@@ -624,21 +666,27 @@ def some_lists(make, width):
 
 def most_lists(make, format):
     """The lists of an image of 65,536 bytes, which is the largest; all of their rules are stars."""
-    counts = [1024, 1024, 1024] if format == 1 else [1024, 0, 0]
+    counts = [1024, 1024, 1024] if format == 1 else [1024, 1, 1]
     left = (3638 if format == 1 else 1926) - sum(counts)
-    counts += [2, make.random.randint(0, left - 2)]
+    counts += [2, make.random.randint(1, left - 3)]
     counts.append(left - sum(counts[3:]))
     return {make.random.randrange(10) + 10 * k: slices_of([(0, 0, k)] * count) for k, count in enumerate(counts)}
 
 
+def changed_list(make, width, list):
+    """A list that differs little from this one, or this one, where no rule would be left."""
+    changed = like(make, width, list)
+    return changed if changed[2] else list
+
+
 def changed_lists(make, width, lists):
     """These lists with some of them changed a little, and one gone, put in, or under another id."""
-    lists = {id: like(make, width, list) if make.chance(80) else list for id, list in lists.items()}
+    lists = {id: changed_list(make, width, list) if make.chance(80) else list for id, list in lists.items()}
     change, id = make.random.randrange(8), make.random.choice(sorted(lists))
     if change == 0 and len(lists) > 1:
         del lists[id]
     elif change == 1 and len(lists) < model.MOST_LISTS:
-        lists[make.random.randrange(65536)] = make.list_of(width, make.some(6))
+        lists[make.random.randrange(65536)] = make.list_of(width, make.some(6, 1))
     elif change == 2:
         lists[make.random.randrange(65536)] = lists.pop(id)
     return lists

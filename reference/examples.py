@@ -117,6 +117,12 @@ def examples():
         yield model.bench(image, other) == "width 3\n2 3 1 none\n5 5 none 1\n7 7 none 1\nruns 3\n"
         yield runs_found(10, model.compare_first_outcomes, image, None, other, 1, 0) == ([(4, 7, none, 1)], None)
         yield runs_found(10, model.compare_list_outcomes, image, 1, 1, other, 1, 1, 0) == ([], None)
+        rule = [("0**", 1)]
+        yield refusal(model.check_image, image_of(format, 3, [[]])) == (24, 1, 0)
+        yield refusal(model.check_image, image_of(format, 3, [[], rule])) == (24, 1, 0)
+        yield refusal(model.check_image, image_of(format, 3, [rule, []])) == (24, 2, 0)
+        yield refusal(model.write, format, 3, [1, 0], [1, 2], *slices(rule), [0] * 99) == (24, 2, 0)
+        yield model.bench(image, image_of(format, 3, [[]])) == "refused 24\n"
     wide = bytes([2, 65, 1, 0, 12, 0, 0, 0, 1, 0, 1, 0] + [0] * 8 + [1] + [0] * 23 + [1, 0])
     yield image_of(2, 65, [[("0" + "*" * 64, 1)]]) == wide and len(wide) == 46 and refusal(model.check_image, wide) is None
     yield refusal(model.check_image, b"\1" + wide[1:]) == (1, 0, 0) and refusal(model.check_image, b"\3" + wide[1:]) == (11, 0, 0)

@@ -23,7 +23,7 @@ def pair(make):
     old = image_of(format, width, counts, ids, rules)
     first, later = rules[: counts[0]], rules[counts[0] :]
     other = model.words_and_decisions(*cases.like(make, width, model.slices_of(first)))
-    if len(other) > model.LONGEST:
+    if not 1 <= len(other) <= model.LONGEST:
         other = first
     new = image_of(cases.format_for(make, width), width, [len(other)] + counts[1:], ids, other + later)
     if make.chance(12):

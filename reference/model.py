@@ -559,8 +559,8 @@ def entries(image):
 
 
 def check_image(image):
-    """10 for the size, 11, 1, 12; entry by entry 13, 14, 3, and 10 where the body passes the end; 10 for the whole; then
-    every list's rules."""
+    """10 for the size, 11, 1, 12; entry by entry 13, 14, 24 for a list without rules, 3, and 10 where the body passes the end; 10
+    for the whole; then every list's rules."""
     size = len(image)
     if size < HEAD or size > LARGEST_IMAGE:
         raise Refused(10)
@@ -576,6 +576,8 @@ def check_image(image):
             raise Refused(13, k + 1, 0)
         if offset != end:
             raise Refused(14, k + 1, 0)
+        if count == 0:
+            raise Refused(24, k + 1, 0)
         if count > LONGEST:
             raise Refused(3, k + 1, 0)
         end, before = end + rule_size(image[0]) * count, id
@@ -647,7 +649,8 @@ def image_bytes(format, width, counts, ids, rules):
 
 
 def write(format, width, counts, ids, care, value, decision, out):
-    """The image's length; out is a list of bytes, of which only the image's are changed. 11 for the format comes first of all."""
+    """The image's length; out is a list of bytes, of which only the image's are changed. 11 for the format comes first of all;
+    list by list 13, 24 for one without rules, 3."""
     if format not in WORD:
         raise Refused(11)
     check_image_width(format, width)
@@ -658,6 +661,8 @@ def write(format, width, counts, ids, care, value, decision, out):
     for k in range(len(ids)):
         if k > 0 and ids[k] <= ids[k - 1]:
             raise Refused(13, k + 1, 0)
+        if counts[k] == 0:
+            raise Refused(24, k + 1, 0)
         if counts[k] > LONGEST:
             raise Refused(3, k + 1, 0)
     rules = words_and_decisions(care, value, decision)

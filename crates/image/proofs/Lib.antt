@@ -3,6 +3,7 @@ pub mod SeekLaws
 pub mod AskLaws
 pub mod PassedLaws
 pub mod ReadLaws
+pub mod FullLaws
 pub mod BackLaws
 pub mod Theorems
 pub mod Unique

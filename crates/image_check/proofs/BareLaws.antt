@@ -6,12 +6,12 @@ use lib.Dec.{leb, eqb}
 use lib.ListN.{length, getD}
 use Rattle.rules.specs.Rule.{Rule}
 use Rattle.rules.specs.Replies.{need, _then_}
-use Rattle.rules.specs.Checks.{sizeCheck, ruleCheck, rulesCheck}
+use Rattle.rules.specs.Checks.{ruleCheck, rulesCheck}
 use Rattle.rules.proofs.ReplyLaws.{Bare, bare-need, bare-then}
 use Rattle.image_form.specs.Formats.{ruleSize, formatCheck, rangeCheck}
 use Rattle.image_form.specs.declared.Entry.{Entry}
 use Rattle.image_form.specs.Images.{Named, formatIn, widthIn, countIn, entriesOf, listsOf}
-use Rattle.image_check.specs.Checks.{headCheck, entryCheck, entriesCheck, contentsCheck, listsCheck, bodiesCheck, imageCheck}
+use Rattle.image_check.specs.Checks.{headCheck, countCheck, entryCheck, entriesCheck, contentsCheck, listsCheck, bodiesCheck, imageCheck}
 
 pub bare-rules : (w l i : ℕ) (rs : List Rule) → Bare (rulesCheck w l i rs)
 unfolding rulesCheck
@@ -39,7 +39,7 @@ unfolding entryCheck
 bare-entry fmt size next least l e =
     bare-then (need (leb least (e .id)) 13 l 0) _
     (bare-then (need (eqb (e .offset) next) 14 l 0) _
-    (bare-then (sizeCheck l (e .count)) _ (bare-need (leb (next + ruleSize fmt * e .count) size) 10 l 0)))
+    (bare-then (countCheck l (e .count)) _ (bare-need (leb (next + ruleSize fmt * e .count) size) 10 l 0)))
 
 pub bare-entries : (fmt size next least l : ℕ) (es : List Entry) → Bare (entriesCheck fmt size next least l es)
 unfolding entriesCheck

@@ -8,13 +8,14 @@ use mathlib.Core.Bool.{true, false, _&&_}
 use lib.Dec.{leb, eqb}
 use borrow.Author.Tests.{le-leb, lt-leb, eq-eqb, ne-eqb, leb-true, eqb-true}
 use Rattle.rules.specs.Replies.{Refuses, passed, need, _then_}
-use Rattle.rules.specs.Checks.{widest, sizeCheck}
-use Rattle.rules.proofs.ReplyLaws.{need-then, need-passed, then-second}
+use Rattle.rules.specs.Checks.{widest}
+use Rattle.rules.proofs.ReplyLaws.{need-then, need-passed, then-next, then-refuses, then-second, bare-first}
 use Rattle.words.proofs.Tests.{and-true}
 use Rattle.image_form.specs.Formats.{known, ruleSize, mostPlaces, formatCheck, rangeCheck}
 use Rattle.image_form.specs.declared.Entry.{Entry}
 use Rattle.image_form.specs.Images.{formatIn, widthIn, countIn}
-use Rattle.image_check.specs.Checks.{headCheck, entryCheck}
+use Rattle.image_check.specs.Checks.{headCheck, countCheck, entryCheck}
+use Rattle.image_check.proofs.CountLaws.{count-none, count-many, count-fine, count-facts, bare-count}
 use Rattle.image_form.proofs.FormatLaws.{places-most}
 
 -- what the first three tests of a head leave: the size is right and the format is known
@@ -83,43 +84,52 @@ module _ (b : List ℕ) where
 
 module _ (fmt size next least l : ℕ) (e : Entry) where
   pub entry-1 : e .id < least → Refuses 13 l 0 ≡ entryCheck fmt size next least l e
-  unfolding entryCheck sizeCheck
+  unfolding entryCheck
   entry-1 h1 = simp lt-leb
 
   pub entry-2 : least ≤ e .id → (e .offset ≡ next → ⊥) → Refuses 14 l 0 ≡ entryCheck fmt size next least l e
-  unfolding entryCheck sizeCheck
+  unfolding entryCheck
   entry-2 h1 h2 = simp (le-leb, ne-eqb)
 
-  pub entry-3 : least ≤ e .id → e .offset ≡ next → 1024 < e .count → Refuses 3 l 0 ≡ entryCheck fmt size next least l e
-  unfolding entryCheck sizeCheck
-  entry-3 h1 h2 h3 = simp (le-leb, lt-leb, eq-eqb)
+  module _ (h1 : least ≤ e .id) (h2 : e .offset ≡ next) where
+    -- the checks that are left
+    entry-rest : entryCheck fmt size next least l e ≡ (countCheck l (e .count) then need (leb (next + ruleSize fmt * e .count) size) 10 l 0)
+    unfolding entryCheck
+    entry-rest = simp (le-leb, eq-eqb)
 
-  pub entry-4 : least ≤ e .id → e .offset ≡ next → e .count ≤ 1024 → size < next + ruleSize fmt * e .count → Refuses 10 l 0 ≡ entryCheck fmt size next least l e
-  unfolding entryCheck sizeCheck
-  entry-4 h1 h2 h3 h4 = simp (le-leb, lt-leb, eq-eqb)
+    pub entry-3 : e .count < 1 → Refuses 24 l 0 ≡ entryCheck fmt size next least l e
+    entry-3 h3 = sym (entry-rest ∙ then-refuses _ _ (count-none l (e .count) h3))
 
-  pub entry-fine : least ≤ e .id → e .offset ≡ next → e .count ≤ 1024 → next + ruleSize fmt * e .count ≤ size → passed ≡ entryCheck fmt size next least l e
-  unfolding entryCheck sizeCheck
-  entry-fine h1 h2 h3 h4 = simp (le-leb, eq-eqb)
+    pub entry-4 : 1024 < e .count → Refuses 3 l 0 ≡ entryCheck fmt size next least l e
+    entry-4 h4 = sym (entry-rest ∙ then-refuses _ _ (count-many l (e .count) h4))
+
+    module _ (h3 : 1 ≤ e .count) (h4 : e .count ≤ 1024) where
+      pub entry-5 : size < next + ruleSize fmt * e .count → Refuses 10 l 0 ≡ entryCheck fmt size next least l e
+      entry-5 h5 = sym (entry-rest ∙ then-next _ _ (count-fine l (e .count) h3 h4) ∙ simp lt-leb)
+
+      pub entry-fine : next + ruleSize fmt * e .count ≤ size → passed ≡ entryCheck fmt size next least l e
+      entry-fine h5 = sym (entry-rest ∙ then-next _ _ (count-fine l (e .count) h3 h4) ∙ simp le-leb)
 
 -- what an entry that passed says
 pub record EntryFacts (fmt size next least : ℕ) (e : Entry) : Type 0 where
   pub rises : least ≤ e .id
   pub starts : e .offset ≡ next
+  pub some : 1 ≤ e .count
   pub few : e .count ≤ 1024
   pub within : next + ruleSize fmt * e .count ≤ size
 
 pub entry-facts : (fmt size next least l : ℕ) (e : Entry) → entryCheck fmt size next least l e ≡ passed → EntryFacts fmt size next least e
-unfolding entryCheck sizeCheck
+unfolding entryCheck
 entry-facts fmt size next least l e f =
     let a = then-second (need (leb least (e .id)) 13 l 0) _ [] f in
     let b = then-second (need (eqb (e .offset) next) 14 l 0) _ [] a in
-    let d = then-second (need (leb (e .count) 1024) 3 l 0) _ [] b in
+    let k = count-facts l (e .count) (bare-first (countCheck l (e .count)) _ (bare-count l (e .count)) [] b) in
     record {
       rises = leb-true _ _ (need-then (leb least (e .id)) 13 l 0 _ [] f);
       starts = eqb-true _ _ (need-then (eqb (e .offset) next) 14 l 0 _ [] a);
-      few = leb-true _ _ (need-then (leb (e .count) 1024) 3 l 0 _ [] b);
-      within = leb-true _ _ (need-passed (leb (next + ruleSize fmt * e .count) size) 10 l 0 d);
+      some = k .0;
+      few = k .1;
+      within = leb-true _ _ (need-passed (leb (next + ruleSize fmt * e .count) size) 10 l 0 (then-second (countCheck l (e .count)) _ [] b));
     }
 
 -- what a head that passed says

@@ -1,4 +1,5 @@
--- The checks of an image, in document 01's order: 10 (size), 11, 1, 12; per entry 13, 14, 3 and 10; 10 (total); the rules.
+-- The checks of an image, in document 01's order with request 07's number in its place: 10 (size), 11, 1, 12; per entry 13, 14, 24, 3
+-- and 10; 10 (total); the rules.
 use Prim.Native.Nat.{ℕ, _+_, _*_}
 use mathlib.Core.List.{List, [], _∷_}
 use lib.ListN.{length, getD}
@@ -21,13 +22,17 @@ headCheck bs =
     then need (leb (countIn bs) 16) 12 0 0
     then need (leb (4 + 8 * countIn bs) (length bs)) 12 0 0
 
--- Entry number l of an image of format f and `size` bytes: its id is `least` or more, its body starts at byte `next`, it has at most
+-- The number n of rules of list number l: an image has no list without rules (24, request 07), and none with more than 1,024 (3).
+unfoldable pub countCheck : (l n : ℕ) → Reply
+countCheck l n = need (leb 1 n) 24 l 0 then sizeCheck l n
+
+-- Entry number l of an image of format f and `size` bytes: its id is `least` or more, its body starts at byte `next`, it has from 1 to
 -- 1,024 rules, and its body does not pass the end.
 unfoldable pub entryCheck : (f size next least l : ℕ) → Entry → Reply
 entryCheck f size next least l e =
     need (leb least (e .id)) 13 l 0
     then need (eqb (e .offset) next) 14 l 0
-    then sizeCheck l (e .count)
+    then countCheck l (e .count)
     then need (leb (next + ruleSize f * e .count) size) 10 l 0
 
 -- The entries from number l on. The next id is greater than this one, and the next body starts where this one ends; the

@@ -71,6 +71,9 @@ fn entry_verdict(
     if entry.offset != next {
         return refused(14, list, 0);
     }
+    if entry.count < 1 {
+        return refused(24, list, 0);
+    }
     if entry.count > 1024 {
         return refused(3, list, 0);
     }

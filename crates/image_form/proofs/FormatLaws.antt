@@ -55,6 +55,10 @@ word-least f = within (eqb f 1)
     within true = omega arith
     within false = omega arith
 
+-- nor less than 18 to a rule
+pub rule-least : (f : ℕ) → 18 ≤ ruleSize f
+rule-least f = omega (arith, rule-words f, word-least f)
+
 -- no format is wider than the rule library goes
 pub places-most : (f : ℕ) → mostPlaces f ≤ widest
 unfolding mostPlaces wordBytes

@@ -1,5 +1,5 @@
 -- What `weave_image` and `tally` owe their user, read off their own promises: the image that is left, that it is accepted and no longer,
--- which lists it has and how they answer; and that a refused call leaves the lent bytes as they were.
+-- which lists it has, that none is empty, and how they answer; and that a refused call leaves the lent bytes as they were.
 use mathlib.Core.Path.{_≡_, refl, sym, ap, ap₂, _∙_, subst}
 use mathlib.Core.List.{List, [], _∷_}
 use mathlib.Core.Bool.{Bool, false, _||_}
@@ -11,6 +11,7 @@ use lib.ListN.{length, take, drop}
 use lib.Seq.{take-at, drop-at}
 use Rattle.words.proofs.Tests.{split}
 use Rattle.rules.specs.declared.Refusal.{Refusal}
+use Rattle.rules.specs.Lists.{All}
 use Rattle.rules.specs.Rule.{Rule}
 use Rattle.rules.specs.Rules.{answer}
 use Rattle.rules.specs.Slices.{caresOf, valuesOf, decisionsOf}
@@ -25,7 +26,7 @@ use Rattle.weaving.specs.declared.Woven.{Woven}
 use Rattle.weaving.specs.Runs.{join}
 use Rattle.weaving.specs.Weave.{weave, kept, dropped, merges}
 use Rattle.weaving.specs.Calls.{wovenReply}
-use Rattle.weaving.proofs.Theorems.{weave-keeps-answers, counts-add-up}
+use Rattle.weaving.proofs.Theorems.{weave-keeps-answers, weave-keeps-some, counts-add-up}
 use Rattle.image_form.specs.Formats.{ruleSize}
 use Rattle.image_form.specs.declared.Entry.{Entry}
 use Rattle.image_form.specs.Images.{Named, formatIn, widthIn, countIn, entriesOf, listsIn, listsOf, bytesOf}
@@ -35,7 +36,8 @@ use Rattle.image.specs.declared.NumberAnswer.{NumberAnswer}
 use Rattle.image.specs.Places.{placeIn, placeOf, listWith}
 use Rattle.image.specs.Calls.{idCheck, filled}
 use Rattle.image.proofs.PassedLaws.{list-facts}
-use Rattle.image.proofs.ReadLaws.{list-passes}
+use Rattle.image.proofs.ReadLaws.{list-passes, bare-id, id-image}
+use Rattle.image.proofs.FullLaws.{HasRules, no-list-empty, found-some}
 use Rattle.image.proofs.BackLaws.{AreBytes}
 use Rattle.image.proofs.Theorems.{rulesNamed, list-named}
 use Rattle.image_writer.proofs.AgainLaws.{Carried, length-bytesOf, carried-passes, carried-back}
@@ -121,6 +123,10 @@ module _ (bs out out′ : List ℕ) (n : ℕ) (W : ImageWoven bs out (NumberAnsw
     unfolding wovenBytes
     woven-image-passes = ap imageCheck (woven-image-bytes .0) ∙ carried-passes (formatIn bs) (widthIn bs) (wovenLists (widthIn bs) (listsOf bs)) carried
 
+    -- Each of its lists has a rule: weaving leaves none empty (request 07).
+    pub woven-image-full : All HasRules (listsOf (take n out′))
+    woven-image-full = no-list-empty (take n out′) woven-image-passes
+
     -- It has the lists of the image, each with its id and woven, in order.
     pub woven-image-lists : listsOf (take n out′) ≡ wovenLists (widthIn bs) (listsOf bs)
     unfolding wovenBytes
@@ -190,6 +196,13 @@ module _ (bs : List ℕ) (id : ℕ) (t : Tally) (T : wovenReply (Woven.Done t) �
   -- The three counts add up to the number of rules of the list.
   pub tally-adds-up : t .kept + t .dropped + t .merged ≡ length (listWith bs id)
   tally-adds-up = omega (arith, keeps, drops, joins, counts-add-up (widthIn bs) (listWith bs id))
+
+  -- At least one entry is kept: no list of an image is empty, and weaving keeps one of a list that has one.
+  pub tally-keeps-some : 1 ≤ t .kept
+  unfolding tallyReply
+  tally-keeps-some =
+      let f : idCheck bs id ≡ passed = bare-first (idCheck bs id) _ (bare-id bs id) _ (sym T) in
+      omega (arith, keeps, weave-keeps-some (widthIn bs) (listWith bs id) (list-facts bs id (id-image bs id f) .valid) (found-some bs id f))
 
   -- The entries kept are those that the woven image's list with that id has.
   pub tally-of-woven : (out out′ : List ℕ) (n : ℕ) → ImageWoven bs out (NumberAnswer.Number n) out′ → AreBytes bs → t .kept ≡ length (listWith (take n out′) id)

@@ -7,17 +7,19 @@ use native.Mathlib.Omega.{arith}
 use lib.ListN.{length, take, drop}
 use lib.Seq.{take-suc}
 use native.Mathlib.Numerals.{add-one}
+use Rattle.rules.specs.Lists.{All}
 use Rattle.rules.specs.Replies.{passed}
 use Rattle.rules.specs.Checks.{rulesCheck}
 use Rattle.rules.proofs.ReplyLaws.{then-next, then-second, bare-first}
 use Rattle.rules.proofs.CheckLaws.{rules-valid, valid-rules}
 use Rattle.weaving.specs.Weave.{weave}
-use Rattle.weaving.proofs.Theorems.{never-longer, weave-keeps-valid}
+use Rattle.weaving.proofs.Theorems.{never-longer, weave-keeps-some, weave-keeps-valid}
 use Rattle.image_form.specs.Formats.{ruleSize}
 use Rattle.image_form.specs.Images.{Named, named}
-use Rattle.image_form.proofs.FormatLaws.{rule-words, word-least}
+use Rattle.image_form.proofs.FormatLaws.{rule-least}
 use Rattle.image_check.specs.Checks.{listsCheck}
 use Rattle.image_check.proofs.BareLaws.{bare-rules}
+use Rattle.image.proofs.FullLaws.{HasRules}
 use Rattle.image_writer.proofs.AgainLaws.{Rising, allRules, Carried}
 use Rattle.image_writer.proofs.ListLaws.{listAt}
 use Rattle.image_weaving.specs.Weaving.{wovenLists}
@@ -59,9 +61,7 @@ rules-at (suc k) (l ∷ ls) h = rules-at k ls (omega arith)
 
 -- no image carries more than 3,640 rules: each takes 18 bytes or more
 pub carried-rules : (fmt w : ℕ) (ls : List Named) → Carried fmt w ls → allRules ls ≤ 3640
-carried-rules fmt w ls v =
-    let least : 18 ≤ ruleSize fmt = omega (arith, rule-words fmt, word-least fmt) in
-    omega (arith, v .size, v .some, mul-le-mul-right (allRules ls) least)
+carried-rules fmt w ls v = omega (arith, v .size, v .some, mul-le-mul-right (allRules ls) (rule-least fmt))
 
 -- ---- what an image can carry
 
@@ -78,6 +78,14 @@ woven-pass w n (l ∷ ls) f =
     then-next _ _ (valid-rules w n 1 (weave w (l .rules)) (weave-keeps-valid w (l .rules) valid))
     ∙ woven-pass w (n + 1) ls (then-second (rulesCheck w n 1 (l .rules)) _ [] f)
 
+-- no list of the woven lists is empty where none of the lists is
+pub woven-full : (w n : ℕ) (ls : List Named) → listsCheck w n ls ≡ passed → All HasRules ls → All HasRules (wovenLists w ls)
+unfolding wovenLists listsCheck
+woven-full w n [] f u = tt
+woven-full w n (l ∷ ls) f u =
+    let valid = rules-valid w n 1 (l .rules) (bare-first (rulesCheck w n 1 (l .rules)) _ (bare-rules w n 1 (l .rules)) [] f) in
+    (weave-keeps-some w (l .rules) valid (u .0), woven-full w (n + 1) ls (then-second (rulesCheck w n 1 (l .rules)) _ [] f) (u .1))
+
 pub woven-carried : (fmt w : ℕ) (ls : List Named) → Carried fmt w ls → Carried fmt w (wovenLists w ls)
 woven-carried fmt w ls v =
     let l = length-woven w ls in
@@ -88,6 +96,7 @@ woven-carried fmt w ls v =
       some = omega (arith, v .some);
       few = omega (arith, v .few);
       rising = woven-rising w 0 ls (v .rising);
+      full = woven-full w 1 ls (v .rules) (v .full);
       rules = woven-pass w 1 ls (v .rules);
       size = omega (arith, v .size, mul-le-mul-left (ruleSize fmt) (woven-fewer w ls));
     }

@@ -2,7 +2,7 @@
 use mathlib.Core.Path.{_≡_, refl, sym, ap, _∙_, subst}
 use mathlib.Core.Bool.{true}
 use mathlib.Core.List.{List, [], _∷_, _++_, append-assoc, append-nil}
-use Prim.Native.Nat.{ℕ, zero, suc, _+_, _-_, _*_, _/_, _^_, _≤_, _<_}
+use Prim.Native.Nat.{ℕ, zero, suc, _+_, _*_, _/_, _^_, _≤_, _<_}
 use native.Mathlib.Nat.{div-lt-iff-lt-mul, div-add-mod', pow-suc, lt-of-lt-of-le}
 use native.Mathlib.Omega.{arith}
 use lib.Dec.{lit<}
@@ -26,6 +26,7 @@ use Rattle.image_check.specs.Checks.{entriesCheck, listsCheck, contentsCheck, h
 use Rattle.image_form.proofs.FormatLaws.{rule-words, places-words, places-bytes}
 use Rattle.image_check.proofs.BareLaws.{bare-rules}
 use Rattle.image_check.proofs.HeadLaws.{entry-fine, head-fine}
+use Rattle.image.proofs.FullLaws.{HasRules}
 use Rattle.image_writer.proofs.PutLaws.{length-bytes, length-rulesBytes, length-contents}
 
 -- ids rise from `least` on and fit two bytes; no list is too long
@@ -46,6 +47,7 @@ pub record Carried (fmt w : ℕ) (ls : List Named) : Type 0 where
   pub some : 1 ≤ length ls
   pub few : length ls ≤ 16
   pub rising : Rising 0 ls
+  pub full : All HasRules ls
   pub rules : listsCheck w 1 ls ≡ passed
   pub size : 4 + 8 * length ls + ruleSize fmt * allRules ls ≤ 65536
 
@@ -157,14 +159,14 @@ entries-read fmt next least (l ∷ ls) t r h =
     ∙ (λ j. one .0 j ∷ entriesIn (length ls) (one .1 j))
     ∙ ap (λ (ys : List Entry). e ∷ ys) (entries-read fmt (next + ruleSize fmt * n) (l .id + 1) ls t (r .3) (omega arith))
 
-entries-fine : (fmt size next least k : ℕ) (ls : List Named) → Rising least ls → next + ruleSize fmt * allRules ls ≡ size
+entries-fine : (fmt size next least k : ℕ) (ls : List Named) → Rising least ls → All HasRules ls → next + ruleSize fmt * allRules ls ≡ size
     → entriesCheck fmt size next least k (entriesFor fmt next ls) ≡ passed
 unfolding entriesFor entriesCheck
-entries-fine fmt size next least k [] r h = let e : next ≡ size = omega arith in simp eq-eqb
-entries-fine fmt size next least k (l ∷ ls) r h =
+entries-fine fmt size next least k [] r u h = let e : next ≡ size = omega arith in simp eq-eqb
+entries-fine fmt size next least k (l ∷ ls) r u h =
     let n : ℕ = length (l .rules) in
-    then-next _ _ (sym (entry-fine fmt size next least k (entryWith next n (l .id)) (r .0) refl (r .2) (omega arith)))
-    ∙ entries-fine fmt size (next + ruleSize fmt * n) (l .id + 1) (k + 1) ls (r .3) (omega arith)
+    then-next _ _ (sym (entry-fine fmt size next least k (entryWith next n (l .id)) (r .0) refl (u .0) (r .2) (omega arith)))
+    ∙ entries-fine fmt size (next + ruleSize fmt * n) (l .id + 1) (k + 1) ls (r .3) (u .1) (omega arith)
 
 module _ (fmt w : ℕ) (ls : List Named) (v : Carried fmt w ls) where
   pub length-bytesOf : length (bytesOf fmt w ls) ≡ 4 + 8 * length ls + ruleSize fmt * allRules ls
@@ -211,7 +213,7 @@ module _ (fmt w : ℕ) (ls : List Named) (v : Carried fmt w ls) where
   unfolding contentsCheck bytesOf
   contents-ok =
       ap (entriesCheck fmt (length (bytesOf fmt w ls)) (4 + 8 * length ls) 0 1) entries-are
-      ∙ entries-fine fmt (length (bytesOf fmt w ls)) (4 + 8 * length ls) 0 1 ls (v .rising) (sym length-bytesOf)
+      ∙ entries-fine fmt (length (bytesOf fmt w ls)) (4 + 8 * length ls) 0 1 ls (v .rising) (v .full) (sym length-bytesOf)
 
   bodies-ok : bodiesCheck (bytesOf fmt w ls) ≡ passed
   unfolding bodiesCheck bytesOf

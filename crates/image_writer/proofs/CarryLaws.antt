@@ -1,18 +1,16 @@
 -- From a writer's arguments to lists that can be carried, and from the lists of an image back to a writer's arguments.
 use mathlib.Core.Path.{_≡_, refl, sym, ap, ap₂, _∙_}
 use mathlib.Core.List.{List, [], _∷_, _++_, map}
-use Prim.Native.Nat.{ℕ, zero, suc, _+_, _-_, _*_, _≤_, _<_}
+use Prim.Native.Nat.{ℕ, zero, suc, _+_, _*_, _≤_, _<_}
 use native.Mathlib.Omega.{arith}
-use lib.Dec.{leb}
 use lib.ListN.{length, take, drop, length-drop, length-append}
 use lib.Seq.{length-take-le, take-at, drop-at}
-use borrow.Author.Tests.{leb-true, le-leb}
+use borrow.Author.Tests.{le-leb}
 use Rattle.rules.specs.Rule.{Rule}
 use Rattle.rules.specs.Lists.{All}
-use Rattle.rules.specs.Replies.{passed, need}
-use Rattle.rules.specs.Checks.{sizeCheck}
+use Rattle.rules.specs.Replies.{passed}
 use Rattle.rules.specs.Slices.{rulesOf, careOf, valueOf, decisionOf, caresOf, valuesOf, decisionsOf}
-use Rattle.rules.proofs.ReplyLaws.{then-next, then-second, need-then, need-yes, bare-first}
+use Rattle.rules.proofs.ReplyLaws.{then-next, then-second, need-yes, bare-first}
 use Rattle.image_form.specs.Bytes.{le}
 use Rattle.words.specs.Slices.{halvesOf}
 use Rattle.words.proofs.SliceLaws.{halves-length}
@@ -22,9 +20,12 @@ use Rattle.image_form.specs.Images.{Named, named, listsIn, total, formatIn, cou
 use Rattle.image_check.specs.Checks.{entryCheck, entriesCheck, listsCheck, contentsCheck, headCheck, bodiesCheck, imageCheck}
 use Rattle.image_writer.specs.Writing.{sumOf, listsFrom, given, namesCheck, imageLength, writeCheck}
 use Rattle.image_check.proofs.BareLaws.{bare-entry, bare-head, bare-contents}
+use Rattle.image_check.proofs.CountLaws.{count-fine}
 use Rattle.image_check.proofs.HeadLaws.{entry-facts, head-facts}
 use Rattle.image_check.proofs.StepLaws.{contents-total}
 use Rattle.image.proofs.SeekLaws.{length-rulesIn}
+use Rattle.image.proofs.FullLaws.{HasRules, no-list-empty}
+use Rattle.image_writer.proofs.GivenLaws.{names-facts}
 use Rattle.image_writer.proofs.WriteLaws.{WriteFacts, facts-write, length-cut, rules-given}
 use Rattle.image.proofs.BackLaws.{AreBytes, bytes-drop, length-listsOf}
 use Rattle.image_writer.proofs.AgainLaws.{Rising, allRules, Carried}
@@ -34,18 +35,27 @@ use Rattle.rules.proofs.SliceLaws.{rules-columns}
 
 rising-cut : (l least : ℕ) (ids ns : List ℕ) (rs : List Rule) → All (λ (i : ℕ). i < 65536) ids → length ns ≡ length ids → sumOf ns ≤ length rs
     → namesCheck l least ids ns ≡ passed → Rising least (listsFrom ids ns rs)
-unfolding namesCheck sizeCheck listsFrom sumOf
+unfolding listsFrom sumOf
 rising-cut l least [] ns rs a h s f = tt
 rising-cut l least (i ∷ is) [] rs a h s f = absurd (omega arith)
 rising-cut l least (i ∷ is) (n ∷ ns) rs a h s f =
-    let g = then-second (need (leb least i) 13 l 0) _ [] f in
-    let t : length (take n rs) ≡ n = length-take-le n rs (omega arith) in
-    let few : n ≤ 1024 = leb-true _ _ (need-then (leb n 1024) 3 l 0 _ [] g) in (
-      leb-true _ _ (need-then (leb least i) 13 l 0 _ [] f),
+    let first = names-facts l least i n is ns f in
+    let t : length (take n rs) ≡ n = length-take-le n rs (omega arith) in (
+      first .0,
       a .0,
-      omega (arith, t, few),
-      rising-cut (l + 1) (i + 1) is ns (drop n rs) (a .1) (omega arith) (omega (arith, length-drop n rs)) (then-second (need (leb n 1024) 3 l 0) _ [] g),
+      omega (arith, t, first .2),
+      rising-cut (l + 1) (i + 1) is ns (drop n rs) (a .1) (omega arith) (omega (arith, length-drop n rs)) (first .3),
     )
+
+full-cut : (l least : ℕ) (ids ns : List ℕ) (rs : List Rule) → length ns ≡ length ids → sumOf ns ≤ length rs → namesCheck l least ids ns ≡ passed
+    → All HasRules (listsFrom ids ns rs)
+unfolding listsFrom sumOf
+full-cut l least [] ns rs h s f = tt
+full-cut l least (i ∷ is) [] rs h s f = absurd (omega arith)
+full-cut l least (i ∷ is) (n ∷ ns) rs h s f =
+    let first = names-facts l least i n is ns f in
+    let t : length (take n rs) ≡ n = length-take-le n rs (omega arith) in
+    (omega (arith, t, first .1), full-cut (l + 1) (i + 1) is ns (drop n rs) (omega arith) (omega (arith, length-drop n rs)) (first .3))
 
 all-cut : (ids ns : List ℕ) (rs : List Rule) → length ns ≡ length ids → sumOf ns ≤ length rs → allRules (listsFrom ids ns rs) ≡ sumOf ns
 unfolding listsFrom sumOf
@@ -70,6 +80,7 @@ facts-carried fmt w ids ns cs vs ds room a f =
       some = omega (arith, s .some);
       few = omega (arith, s .few);
       rising = rising-cut 1 0 ids ns rs a (s .paired) fits (f .names);
+      full = full-cut 1 0 ids ns rs (s .paired) fits (f .names);
       rules = f .rules;
       size = omega (arith, f .small, l, ap (λ (k : ℕ). ruleSize fmt * k) (all-cut ids ns rs (s .paired) fits ∙ s .sums));
     }
@@ -120,13 +131,13 @@ length-column f (r ∷ rs) = ap suc (length-column f rs)
 pub length-words : (f : Rule → ℕ) (rs : List Rule) → length (halvesOf (map f rs)) ≡ length rs * 2
 length-words f rs = halves-length (map f rs) ∙ ap (λ (k : ℕ). k * 2) (length-column f rs)
 
-names-rising : (l least : ℕ) (ls : List Named) → Rising least ls → namesCheck l least (namesOf ls) (countsOf ls) ≡ passed
-unfolding namesCheck sizeCheck
-names-rising l least [] r = refl
-names-rising l least (x ∷ ls) r =
+names-rising : (l least : ℕ) (ls : List Named) → Rising least ls → All HasRules ls → namesCheck l least (namesOf ls) (countsOf ls) ≡ passed
+unfolding namesCheck
+names-rising l least [] r u = refl
+names-rising l least (x ∷ ls) r u =
     then-next _ _ (need-yes _ 13 l 0 (le-leb least (x .id) (r .0)))
-    ∙ then-next _ _ (need-yes _ 3 l 0 (le-leb (length (x .rules)) 1024 (r .2)))
-    ∙ names-rising (l + 1) (x .id + 1) ls (r .3)
+    ∙ then-next _ _ (count-fine l (length (x .rules)) (u .0) (r .2))
+    ∙ names-rising (l + 1) (x .id + 1) ls (r .3) (u .1)
 
 -- lists that can be carried pass the writer's checks, where there is room
 pub carried-writes : (fmt w : ℕ) (ls : List Named) (room : ℕ) → Carried fmt w ls → imageLength fmt (length ls) (allRules ls) ≤ room
@@ -155,7 +166,7 @@ carried-writes fmt w ls room v h =
         some = omega (arith, v .some);
         few = omega (arith, v .few);
       };
-      names = names-rising 1 0 ls (v .rising);
+      names = names-rising 1 0 ls (v .rising) (v .full);
       rules = ap (listsCheck w 1) same ∙ v .rules;
       small = omega (arith, v .size);
       fits = omega arith;
@@ -221,6 +232,7 @@ image-carried b a f =
         some = omega (arith, k .some);
         few = omega (arith, k .few);
         rising = rises-in b a c;
+        full = no-list-empty b f;
         rules = then-second (contentsCheck b) _ [] g;
         size = omega (arith, k .most);
       },

@@ -3,15 +3,13 @@ use mathlib.Core.Path.{_≡_, refl, sym, ap, _∙_, subst}
 use mathlib.Core.List.{List, [], _∷_, _++_, append-nil}
 use Prim.Native.Nat.{ℕ, zero, suc, _+_, _-_, _*_, _≤_, _<_}
 use native.Mathlib.Omega.{arith}
-use lib.Dec.{leb}
 use lib.ListN.{length, take, drop, drop-of-length-le}
 use lib.Seq.{drop-cons, drop-length}
-use borrow.Author.Tests.{leb-true}
 use Rattle.rules.specs.Rule.{Rule}
 use Rattle.rules.specs.Slices.{Lent, decisionOf, caresOf, valuesOf, decisionsOf}
-use Rattle.rules.specs.Replies.{Gives, passed, need, unlessRefused}
+use Rattle.rules.specs.Replies.{Gives, passed, unlessRefused}
 use Rattle.rules.specs.Checks.{lengthsCheck}
-use Rattle.rules.proofs.ReplyLaws.{then-next, then-second, need-then, one-value, bare-first}
+use Rattle.rules.proofs.ReplyLaws.{then-next, one-value, bare-first}
 use Rattle.rules.proofs.CheckLaws.{lengths-yes}
 use Rattle.image.specs.declared.NumberAnswer.{NumberAnswer}
 use Rattle.image.specs.declared.Listed.{Listed}
@@ -21,6 +19,7 @@ use Rattle.image.specs.Places.{listWith}
 use Rattle.image.specs.Replies.{numberReply, listedReply}
 use Rattle.image.specs.Calls.{formatReply, widthReply, countReply, entryReply, readReply, ReadOut, filled}
 use Rattle.image_check.proofs.BareLaws.{bare-image}
+use Rattle.image.proofs.AskLaws.{entry-range}
 use Rattle.image.proofs.BackLaws.{AreBytes, length-listsOf}
 use Rattle.image.proofs.Theorems.{rulesNamed, list-named}
 use Rattle.image.proofs.Unique.{one-number-answer}
@@ -47,13 +46,6 @@ pub record ReadWhole (b : List ℕ) (f w : ℕ) (ids ns cs vs ds : List ℕ) : T
 -- slices that belong together pass their check
 pub lent-passes : (cs vs ds : List ℕ) → Lent cs vs ds → lengthsCheck cs vs ds ≡ passed
 lent-passes cs vs ds l = lengths-yes cs vs ds (sym (l .values)) (sym (l .decisions))
-
--- an entry that is told is one of the image's
-entry-range : (b : List ℕ) (k : ℕ) (ms : List ℕ) → entryReply b k ≡ Gives ms → (1 ≤ k) × (k ≤ countIn b)
-unfolding entryReply
-entry-range b k ms e =
-    let p = then-second (imageCheck b) _ ms e in
-    (leb-true _ _ (need-then (leb 1 k) 15 0 0 _ ms p), leb-true _ _ (need-then (leb k (countIn b)) 15 0 0 _ ms (then-second (need (leb 1 k) 15 0 0) _ ms p)))
 
 -- what goes into a slice that held it
 filled-again : (l : List ℕ) → filled l l ≡ l

@@ -13,7 +13,7 @@ use Rattle.rules.specs.Rule.{Rule}
 use Rattle.rules.specs.declared.Refusal.{Refusal}
 use Rattle.rules.specs.declared.Verdict.{Verdict}
 use Rattle.rules.specs.Replies.{Refuses, passed, need, _then_, verdictReply}
-use Rattle.rules.specs.Checks.{widest, lengthsCheck, sizeCheck, rulesCheck, roomCheck}
+use Rattle.rules.specs.Checks.{widest, lengthsCheck, rulesCheck, roomCheck}
 use Rattle.rules.specs.Calls.{checkList}
 use Rattle.rules.specs.Slices.{zipped, rulesOf, Lent}
 use Rattle.words.proofs.Tests.{true-and, and-true, same-test, eqb-yes, yes-eqb}
@@ -25,10 +25,11 @@ use Rattle.words.proofs.SliceLaws.{words-drop}
 use Rattle.words.specs.Slices.{wordsOf}
 use Rattle.image_form.specs.Bytes.{part}
 use Rattle.image_form.specs.Formats.{known, ruleSize, mostPlaces, formatCheck, rangeCheck}
-use Rattle.image_check.specs.Checks.{listsCheck}
+use Rattle.image_check.specs.Checks.{countCheck, listsCheck}
 use Rattle.image_writer.specs.Writing.{sumOf, listsFrom, given, namesCheck, imageLength, givenCheck, shapeCheck, writeCheck}
 use Rattle.image_form.proofs.FormatLaws.{places-most}
 use Rattle.image_form.proofs.NumberLaws.{length-part}
+use Rattle.image_check.proofs.CountLaws.{count-none, count-many, count-fine, count-facts, bare-count}
 
 -- ---- counts
 
@@ -176,33 +177,34 @@ shape-passes fmt w ids ns cs vs ds s =
     let g : passed ≡ givenCheck ids ns cs vs ds = given-fine ids ns cs vs ds (sym (s .paired)) (sym (s .lent .values)) (sym (s .lent .decisions)) true sums refl in
     sym (shape-fine fmt w ids ns cs vs ds (s .format) (s .least) (s .most) Verdict.Fine g refl (s .some) (s .few))
 
--- ---- refusals 13 and 3
+-- ---- refusals 13, 24 and 3
 
 module _ (least i : ℕ) (ids ns : List ℕ) (h : i < length ids) (l : length ns ≡ length ids) where
   names-turn : namesCheck (i + 1) least (drop i ids) (drop i ns)
-      ≡ (need (leb least (getD ids i 0)) 13 (i + 1) 0 then sizeCheck (i + 1) (getD ns i 0) then namesCheck (i + 1 + 1) (getD ids i 0 + 1) (drop (i + 1) ids) (drop (i + 1) ns))
+      ≡ (need (leb least (getD ids i 0)) 13 (i + 1) 0 then countCheck (i + 1) (getD ns i 0) then namesCheck (i + 1 + 1) (getD ids i 0 + 1) (drop (i + 1) ids) (drop (i + 1) ns))
   unfolding namesCheck
   names-turn =
       ap₂ (namesCheck (i + 1) least) (drop-cons ids i 0 h) (drop-cons ns i 0 (omega arith))
-      ∙ ap (λ (k : ℕ). need (leb least (getD ids i 0)) 13 (i + 1) 0 then sizeCheck (i + 1) (getD ns i 0) then namesCheck (i + 1 + 1) (getD ids i 0 + 1) (drop k ids) (drop k ns)) (sym (add-one i))
+      ∙ ap (λ (k : ℕ). need (leb least (getD ids i 0)) 13 (i + 1) 0 then countCheck (i + 1) (getD ns i 0) then namesCheck (i + 1 + 1) (getD ids i 0 + 1) (drop k ids) (drop k ns)) (sym (add-one i))
 
   module _ (id : ℕ) (e : id ≡ getD ids i 0) where
     pub names-thirteen : id < least → namesCheck (i + 1) least (drop i ids) (drop i ns) ≡ Refuses 13 (i + 1) 0
     names-thirteen m = names-turn ∙ then-refuses _ _ (need-no _ 13 (i + 1) 0 (lt-leb least (getD ids i 0) (omega (arith, e))))
 
     module _ (m : least ≤ id) (n : ℕ) (f : n ≡ getD ns i 0) where
-      names-sized : namesCheck (i + 1) least (drop i ids) (drop i ns)
-          ≡ (sizeCheck (i + 1) (getD ns i 0) then namesCheck (i + 1 + 1) (getD ids i 0 + 1) (drop (i + 1) ids) (drop (i + 1) ns))
-      names-sized = names-turn ∙ then-next _ _ (need-yes _ 13 (i + 1) 0 (le-leb least (getD ids i 0) (omega (arith, e))))
+      names-counted : namesCheck (i + 1) least (drop i ids) (drop i ns)
+          ≡ (countCheck (i + 1) (getD ns i 0) then namesCheck (i + 1 + 1) (getD ids i 0 + 1) (drop (i + 1) ids) (drop (i + 1) ns))
+      names-counted = names-turn ∙ then-next _ _ (need-yes _ 13 (i + 1) 0 (le-leb least (getD ids i 0) (omega (arith, e))))
+
+      pub names-twenty-four : n < 1 → namesCheck (i + 1) least (drop i ids) (drop i ns) ≡ Refuses 24 (i + 1) 0
+      names-twenty-four k = names-counted ∙ then-refuses _ _ (count-none (i + 1) (getD ns i 0) (omega (arith, f)))
 
       pub names-three : 1024 < n → namesCheck (i + 1) least (drop i ids) (drop i ns) ≡ Refuses 3 (i + 1) 0
-      unfolding sizeCheck
-      names-three k = names-sized ∙ then-refuses _ _ (need-no _ 3 (i + 1) 0 (lt-leb (getD ns i 0) 1024 (omega (arith, f))))
+      names-three k = names-counted ∙ then-refuses _ _ (count-many (i + 1) (getD ns i 0) (omega (arith, f)))
 
-      pub names-pass : n ≤ 1024 → namesCheck (i + 1) least (drop i ids) (drop i ns) ≡ namesCheck (i + 1 + 1) (id + 1) (drop (i + 1) ids) (drop (i + 1) ns)
-      unfolding sizeCheck
-      names-pass k =
-          names-sized ∙ then-next _ _ (need-yes _ 3 (i + 1) 0 (le-leb (getD ns i 0) 1024 (omega (arith, f))))
+      pub names-pass : 1 ≤ n → n ≤ 1024 → namesCheck (i + 1) least (drop i ids) (drop i ns) ≡ namesCheck (i + 1 + 1) (id + 1) (drop (i + 1) ids) (drop (i + 1) ns)
+      names-pass j k =
+          names-counted ∙ then-next _ _ (count-fine (i + 1) (getD ns i 0) (omega (arith, f)) (omega (arith, f)))
           ∙ ap (λ (x : ℕ). namesCheck (i + 1 + 1) (x + 1) (drop (i + 1) ids) (drop (i + 1) ns)) (sym e)
 
 pub names-end : (least i : ℕ) (ids ns : List ℕ) → length ids ≤ i → namesCheck (i + 1) least (drop i ids) (drop i ns) ≡ passed
@@ -214,28 +216,33 @@ unfolding namesCheck
 bare-names l least [] ns ms e = refl
 bare-names l least (i ∷ is) [] ms e = refl
 bare-names l least (i ∷ is) (n ∷ ns) ms e =
-    bare-then (need (leb least i) 13 l 0) _ (bare-then (sizeCheck l n) _ (bare-names (l + 1) (i + 1) is ns)) ms e
+    bare-then (need (leb least i) 13 l 0) _ (bare-then (countCheck l n) _ (bare-names (l + 1) (i + 1) is ns)) ms e
+
+-- what passing them says of the first list, and of the lists after it
+pub names-facts : (l least i n : ℕ) (is ns : List ℕ) → namesCheck l least (i ∷ is) (n ∷ ns) ≡ passed
+    → (least ≤ i) × (1 ≤ n) × (n ≤ 1024) × (namesCheck (l + 1) (i + 1) is ns ≡ passed)
+unfolding namesCheck
+names-facts l least i n is ns f =
+    let g = then-second (need (leb least i) 13 l 0) _ [] f in
+    let k = count-facts l n (bare-first (countCheck l n) _ (bare-count l n) [] g) in
+    (leb-true _ _ (need-then (leb least i) 13 l 0 _ [] f), k .0, k .1, then-second (countCheck l n) _ [] g)
 
 -- no list of names that passed is too long
 pub names-small : (l least : ℕ) (ids ns : List ℕ) (i : ℕ) → length ns ≡ length ids → namesCheck l least ids ns ≡ passed → getD ns i 0 ≤ 1024
-unfolding namesCheck sizeCheck
 names-small l least [] [] i e f = omega arith
 names-small l least [] (n ∷ ns) i e f = absurd (omega arith)
 names-small l least (k ∷ is) [] i e f = absurd (omega arith)
-names-small l least (k ∷ is) (n ∷ ns) zero e f =
-    leb-true _ _ (need-then (leb n 1024) 3 l 0 _ [] (then-second (need (leb least k) 13 l 0) _ [] f))
-names-small l least (k ∷ is) (n ∷ ns) (suc i) e f =
-    names-small (l + 1) (k + 1) is ns i (omega arith) (then-second (need (leb n 1024) 3 l 0) _ [] (then-second (need (leb least k) 13 l 0) _ [] f))
+names-small l least (k ∷ is) (n ∷ ns) zero e f = names-facts l least k n is ns f .2
+names-small l least (k ∷ is) (n ∷ ns) (suc i) e f = names-small (l + 1) (k + 1) is ns i (omega arith) (names-facts l least k n is ns f .3)
 
 pub names-sum : (l least : ℕ) (ids ns : List ℕ) → length ns ≡ length ids → namesCheck l least ids ns ≡ passed → sumOf ns ≤ 1024 * length ids
-unfolding namesCheck sizeCheck sumOf
+unfolding sumOf
 names-sum l least [] [] e f = omega arith
 names-sum l least [] (n ∷ ns) e f = absurd (omega arith)
 names-sum l least (k ∷ is) [] e f = absurd (omega arith)
 names-sum l least (k ∷ is) (n ∷ ns) e f =
-    let s = then-second (need (leb least k) 13 l 0) _ [] f in
-    let small : n ≤ 1024 = leb-true _ _ (need-then (leb n 1024) 3 l 0 _ [] s) in
-    omega (arith, names-sum (l + 1) (k + 1) is ns (omega arith) (then-second (need (leb n 1024) 3 l 0) _ [] s))
+    let first = names-facts l least k n is ns f in
+    omega (arith, first .2, names-sum (l + 1) (k + 1) is ns (omega arith) (first .3))
 
 -- ---- the rules of each list
 

@@ -2,6 +2,7 @@
 pub mod PutLaws
 pub mod GivenLaws
 pub mod WriteLaws
+pub mod FullLaws
 pub mod AgainLaws
 pub mod CarryLaws
 pub mod ListLaws

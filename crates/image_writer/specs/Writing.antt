@@ -7,11 +7,11 @@ use lib.Dec.{leb, eqb}
 use Rattle.rules.specs.Rule.{Rule}
 use Rattle.rules.specs.Slices.{rulesOf}
 use Rattle.rules.specs.Replies.{Reply, Gives, passed, need, _then_, unlessRefused}
-use Rattle.rules.specs.Checks.{lengthsCheck, sizeCheck, roomCheck}
+use Rattle.rules.specs.Checks.{lengthsCheck, roomCheck}
 use Rattle.image.specs.declared.NumberAnswer.{NumberAnswer}
 use Rattle.image_form.specs.Formats.{ruleSize, formatCheck, rangeCheck}
 use Rattle.image_form.specs.Images.{Named, named, bytesOf}
-use Rattle.image_check.specs.Checks.{listsCheck}
+use Rattle.image_check.specs.Checks.{countCheck, listsCheck}
 use Rattle.image.specs.Calls.{filled}
 use Rattle.image.specs.Replies.{numberReply}
 
@@ -29,13 +29,13 @@ listsFrom (i ∷ is) (n ∷ ns) rs = named i (take n rs) ∷ listsFrom is ns (dr
 abbrev pub given : (ids counts cares values decisions : List ℕ) → List Named
 given ids ns cs vs ds = listsFrom ids ns (rulesOf cs vs ds)
 
--- The lists from number l on: the id is `least` or more, then at most 1,024 rules; the next id is greater than this one.
+-- The lists from number l on: the id is `least` or more, then from 1 to 1,024 rules; the next id is greater than this one.
 unfoldable pub namesCheck : (l least : ℕ) → (ids counts : List ℕ) → Reply
 namesCheck l least [] ns = passed
 namesCheck l least (i ∷ is) [] = passed
 namesCheck l least (i ∷ is) (n ∷ ns) =
     need (leb least i) 13 l 0
-    then sizeCheck l n
+    then countCheck l n
     then namesCheck (l + 1) (i + 1) is ns
 
 -- The bytes of an image of so many lists and rules.
@@ -58,7 +58,7 @@ shapeCheck f w ids ns cs vs ds =
     then need (leb 1 (length ids)) 12 0 0
     then need (leb (length ids) 16) 12 0 0
 
--- The writer's checks: 11, 1, 2, 12, per list 13 and 3, the rules, 10, 7.
+-- The writer's checks: 11, 1, 2, 12, per list 13, 24 (request 07) and 3, the rules, 10, 7.
 unfoldable pub writeCheck : (f w : ℕ) → (ids counts cares values decisions : List ℕ) → (room : ℕ) → Reply
 writeCheck f w ids ns cs vs ds room =
     shapeCheck f w ids ns cs vs ds

@@ -97,7 +97,7 @@ fn shape_verdict(
     Verdict::Fine
 }
 
-// Refusals 13 and 3, list by list.
+// Refusals 13, 24 and 3, list by list.
 fn names_verdict(ids: &[u16], counts: &[u16]) -> Verdict
     requires { ⌜ length (now counts) ≡ length (now ids) ⌝ }
     ensures { λ r. ⌜ verdictReply r ≡ namesCheck 1 0 (now (ids .entry)) (now (counts .entry)) ⌝ }
@@ -109,7 +109,11 @@ fn names_verdict(ids: &[u16], counts: &[u16]) -> Verdict
         if id < least {
             return refused(13, i + 1, 0);
         }
-        if wide16(counts[i]) > 1024 {
+        let count = wide16(counts[i]);
+        if count < 1 {
+            return refused(24, i + 1, 0);
+        }
+        if count > 1024 {
             return refused(3, i + 1, 0);
         }
         least = id + 1;
@@ -192,7 +196,7 @@ fn write_verdict(
 }
 
 // Writes the image of lists in a format: `counts` says how many of the rules belong to each id, in order. The answer is the
-// image's length, and only its bytes change. Checks 11 of the format, 1, 2, 12, per list 13 and 3, the rules, 10, 7.
+// image's length, and only its bytes change. Checks 11 of the format, 1, 2, 12, per list 13, 24 and 3, the rules, 10, 7.
 pub fn write(
     format: u8,
     width: u32,

@@ -25,7 +25,7 @@ use Rattle.weaving.specs.declared.Tally.{Tally}
 use Rattle.weaving.specs.declared.Woven.{Woven}
 use Rattle.weaving.specs.Weave.{weave, kept, dropped, merges}
 use Rattle.weaving.specs.Calls.{padded, RunsDone, weaveReply, WeaveDone}
-use Rattle.weaving.proofs.Theorems.{weave-keeps-answers, counts-add-up, woven-list-passes}
+use Rattle.weaving.proofs.Theorems.{weave-keeps-answers, weave-keeps-some, counts-add-up, woven-list-passes}
 
 -- ---- the kept places
 
@@ -122,6 +122,10 @@ module _ (w : ℕ) (cs vs ds ocs ovs ods ocs′ ovs′ ods′ : List ℕ) (t : T
   -- The woven list has no more entries than the list lent has rules.
   pub woven-shorter : t .kept ≤ length ds
   woven-shorter = omega (arith, woven-counts)
+
+  -- It has an entry where the list lent has a rule.
+  pub woven-some : 1 ≤ length ds → 1 ≤ t .kept
+  woven-some h = omega (arith, keeps, weave-keeps-some w (rulesOf cs vs ds) (source-sound .valid) (omega (arith, source-length)))
 
   -- The woven list passes the checks that every call makes of a list lent to it, whichever number the call names it by.
   pub woven-passes : (l : ℕ) → checkList w l (keptWords t ocs′) (keptWords t ovs′) (keptDecisions t ods′) ≡ passed

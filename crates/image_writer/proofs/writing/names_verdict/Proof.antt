@@ -2,7 +2,7 @@ use mathlib.Core.Path.{_≡_, refl, sym, _∙_}
 use Prim.Native.Nat.{_+_, _-_, _≤_}
 use native.Mathlib.Omega.{arith}
 use lib.ListN.{length, drop}
-use Rattle.image_writer.proofs.GivenLaws.{names-thirteen, names-three, names-pass, names-end}
+use Rattle.image_writer.proofs.GivenLaws.{names-thirteen, names-twenty-four, names-three, names-pass, names-end}
 use Rattle.image_writer.specs.Writing.{namesCheck}
 use borrow.Author.Needs.{needs}
 use Rattle.image_writer.proofs.writing.names_verdict.Statement.{statement}
@@ -55,7 +55,16 @@ refused-requires-2 : tie.Need-refused-requires-2 Inv-loop μ-loop
 refused-requires-2 c κs = search needs
 
 returns-2 : tie.Need-returns-2 Inv-loop μ-loop
-returns-2 c = c .refused2 .ensures ∙ sym (c .before .before .before .before .before .before .before .before .loop .inv .1 ∙ names-three (c .before .before .before .before .before .before .before .before .loop .least) (c .before .before .before .before .before .before .before .before .loop .i) _ _ (omega arith) (c .before .before .before .before .before .before .before .before .before .before .before .pre) _ (c .before .before .before .before .before .wide16 .ensures .0) (omega arith) _ (c .before .before .wide162 .ensures .0) (omega arith))
+returns-2 c = c .refused2 .ensures ∙ sym (c .before .before .before .before .before .before .before .before .loop .inv .1 ∙ names-twenty-four (c .before .before .before .before .before .before .before .before .loop .least) (c .before .before .before .before .before .before .before .before .loop .i) _ _ (omega arith) (c .before .before .before .before .before .before .before .before .before .before .before .pre) _ (c .before .before .before .before .before .wide16 .ensures .0) (omega arith) _ (c .before .before .wide162 .ensures .0) (omega arith))
+
+add-refused-3 : tie.Need-add-refused-3 Inv-loop μ-loop
+add-refused-3 c = search needs
+
+refused-requires-3 : tie.Need-refused-requires-3 Inv-loop μ-loop
+refused-requires-3 c κs = search needs
+
+returns-3 : tie.Need-returns-3 Inv-loop μ-loop
+returns-3 c = c .refused3 .ensures ∙ sym (c .before .before .before .before .before .before .before .before .before .loop .inv .1 ∙ names-three (c .before .before .before .before .before .before .before .before .before .loop .least) (c .before .before .before .before .before .before .before .before .before .loop .i) _ _ (omega arith) (c .before .before .before .before .before .before .before .before .before .before .before .before .pre) _ (c .before .before .before .before .before .before .wide16 .ensures .0) (omega arith) _ (c .before .before .before .wide162 .ensures .0) (omega arith))
 
 add-least : tie.Need-add-least Inv-loop μ-loop
 add-least c = search needs
@@ -67,10 +76,10 @@ loop-less : tie.Need-loop-less Inv-loop μ-loop
 loop-less c = search needs
 
 loop-again : tie.Need-loop-again Inv-loop μ-loop
-loop-again c = (omega arith, c .before .before .before .before .before .before .before .loop .inv .1 ∙ names-pass (c .before .before .before .before .before .before .before .loop .least) (c .before .before .before .before .before .before .before .loop .i) _ _ (omega arith) (c .before .before .before .before .before .before .before .before .before .before .pre) _ (c .before .before .before .before .wide16 .ensures .0) (omega arith) _ (c .before .wide162 .ensures .0) (omega arith))
+loop-again c = (omega arith, c .before .before .before .before .before .before .before .before .loop .inv .1 ∙ names-pass (c .before .before .before .before .before .before .before .before .loop .least) (c .before .before .before .before .before .before .before .before .loop .i) _ _ (omega arith) (c .before .before .before .before .before .before .before .before .before .before .before .pre) _ (c .before .before .before .before .before .wide16 .ensures .0) (omega arith) _ (c .before .before .wide162 .ensures .0) (omega arith) (omega arith))
 
-returns-3 : tie.Need-returns-3 Inv-loop μ-loop
-returns-3 c = sym (c .before .loop .inv .1 ∙ names-end (c .before .loop .least) (c .before .loop .i) _ _ (omega arith))
+returns-4 : tie.Need-returns-4 Inv-loop μ-loop
+returns-4 c = sym (c .before .loop .inv .1 ∙ names-end (c .before .loop .least) (c .before .loop .i) _ _ (omega arith))
 
 pub names-verdict-spec : {M : Type 1} → statement M
 names-verdict-spec =
@@ -91,8 +100,11 @@ names-verdict-spec =
     add-refused-2
     refused-requires-2
     returns-2
+    add-refused-3
+    refused-requires-3
+    returns-3
     add-least
     add-i
     loop-less
     loop-again
-    returns-3)
+    returns-4)

@@ -1,0 +1,80 @@
+-- What refusal 24 takes away of writing, and that it takes nothing else: the writer takes exactly what document 01's writer takes, whose
+-- checks have no 24, where no count is 0; and of counts that are not 0 it refuses as that one does.
+use mathlib.Core.Path.{_≡_, refl, sym, ap, _∙_}
+use mathlib.Core.Logic.{_↔_}
+use mathlib.Core.List.{List, [], _∷_}
+use Prim.Native.Nat.{ℕ, _+_, _≤_}
+use native.Mathlib.Omega.{arith}
+use lib.Dec.{leb}
+use lib.ListN.{length}
+use Rattle.rules.specs.Lists.{All}
+use Rattle.rules.specs.Replies.{Reply, passed, need, _then_}
+use Rattle.rules.specs.Checks.{sizeCheck, roomCheck}
+use Rattle.image_check.specs.Checks.{listsCheck}
+use Rattle.image_check.proofs.FullLaws.{count-without}
+use Rattle.image_writer.specs.Writing.{given, namesCheck, imageLength, shapeCheck, writeCheck}
+use Rattle.image_writer.proofs.GivenLaws.{names-facts}
+use Rattle.image_writer.proofs.WriteLaws.{write-facts}
+
+-- A count of a list that has a rule.
+abbrev pub CountsRules : ℕ → Type 0
+CountsRules n = 1 ≤ n
+
+names-full : (l least : ℕ) (ids ns : List ℕ) → length ns ≡ length ids → namesCheck l least ids ns ≡ passed → All CountsRules ns
+names-full l least [] [] h f = tt
+names-full l least [] (n ∷ ns) h f = absurd (omega arith)
+names-full l least (i ∷ is) [] h f = absurd (omega arith)
+names-full l least (i ∷ is) (n ∷ ns) h f =
+    let first = names-facts l least i n is ns f in
+    (first .1, names-full (l + 1) (i + 1) is ns (omega arith) (first .3))
+
+-- ---- the checks of document 01, without 24
+
+unfoldable pub namesWithout : (l least : ℕ) → (ids counts : List ℕ) → Reply
+namesWithout l least [] ns = passed
+namesWithout l least (i ∷ is) [] = passed
+namesWithout l least (i ∷ is) (n ∷ ns) =
+    need (leb least i) 13 l 0
+    then sizeCheck l n
+    then namesWithout (l + 1) (i + 1) is ns
+
+-- Document 01's checks of a writer.
+unfoldable pub writeWithout : (f w : ℕ) → (ids counts cares values decisions : List ℕ) → (room : ℕ) → Reply
+writeWithout f w ids ns cs vs ds room =
+    shapeCheck f w ids ns cs vs ds
+    then namesWithout 1 0 ids ns
+    then listsCheck w 1 (given ids ns cs vs ds)
+    then need (leb (imageLength f (length ids) (length ds)) 65536) 10 0 0
+    then roomCheck (imageLength f (length ids) (length ds)) room
+
+names-without : (l least : ℕ) (ids ns : List ℕ) → All CountsRules ns → namesCheck l least ids ns ≡ namesWithout l least ids ns
+unfolding namesCheck namesWithout
+names-without l least [] ns a = refl
+names-without l least (i ∷ is) [] a = refl
+names-without l least (i ∷ is) (n ∷ ns) a =
+    λ j. need (leb least i) 13 l 0
+    then count-without l n (a .0) j
+    then names-without (l + 1) (i + 1) is ns (a .1) j
+
+module _ (f w : ℕ) (ids ns cs vs ds : List ℕ) (room : ℕ) where
+  -- Counts that are all above 0 are checked as by document 01: the same number and place, or taken.
+  pub write-checked-without : All CountsRules ns → writeCheck f w ids ns cs vs ds room ≡ writeWithout f w ids ns cs vs ds room
+  unfolding writeCheck writeWithout
+  write-checked-without a =
+      ap (λ (u : Reply).
+      shapeCheck f w ids ns cs vs ds
+      then u
+      then listsCheck w 1 (given ids ns cs vs ds)
+      then need (leb (imageLength f (length ids) (length ds)) 65536) 10 0 0
+      then roomCheck (imageLength f (length ids) (length ds)) room)
+      (names-without 1 0 ids ns a)
+
+  -- The writer takes exactly what document 01's writer takes where no count is 0.
+  pub write-takes-exactly : (writeCheck f w ids ns cs vs ds room ≡ passed) ↔ ((writeWithout f w ids ns cs vs ds room ≡ passed) × All CountsRules ns)
+  write-takes-exactly = (
+    (λ e.
+        let k = write-facts f w ids ns cs vs ds room [] e in
+        let a = names-full 1 0 ids ns (k .shape .paired) (k .names) in
+        (sym (write-checked-without a) ∙ e, a)),
+    (λ p. write-checked-without (p .1) ∙ p .0),
+  )
