@@ -1,5 +1,5 @@
--- What refusal 24 takes away, and that it takes nothing else: an image passes exactly when it passes document 01's check, which has no 24,
--- and every contents entry tells of a rule; and one whose entries all do is refused or accepted as without 24.
+-- What refusal 24 turns away, and that it turns away nothing else: an image passes exactly when it passes the check without 24 and every
+-- contents entry tells of a rule; and one whose entries all do is refused or accepted as without 24.
 use mathlib.Core.Path.{_≡_, refl, sym, ap, _∙_}
 use mathlib.Core.Logic.{_↔_}
 use mathlib.Core.List.{List, [], _∷_}
@@ -38,7 +38,7 @@ unfolding imageCheck contentsCheck
 every-entry-tells b f =
     tells-in (formatIn b) (length b) (4 + 8 * countIn b) 0 1 (entriesOf b) (bare-first (contentsCheck b) _ (bare-contents b) [] (then-second (headCheck b) _ [] f))
 
--- ---- the checks of document 01, without 24
+-- ---- the checks without 24, as they were before request 07
 
 -- 24 of a count that is not 0 is passed.
 pub count-without : (l n : ℕ) → 1 ≤ n → countCheck l n ≡ sizeCheck l n
@@ -58,7 +58,7 @@ entriesWithout fmt size next least l (e ∷ es) =
     entryWithout fmt size next least l e
     then entriesWithout fmt size (next + ruleSize fmt * e .count) (e .id + 1) (l + 1) es
 
--- Document 01's check of an image.
+-- The check of an image without 24.
 unfoldable pub imageWithout : List ℕ → Reply
 imageWithout b =
     headCheck b
@@ -82,13 +82,13 @@ entries-without fmt size next least l (e ∷ es) a =
     λ j. entry-without fmt size next least l e (a .0) j
     then entries-without fmt size (next + ruleSize fmt * e .count) (e .id + 1) (l + 1) es (a .1) j
 
--- An image whose contents entries all tell of a rule is checked as by document 01: the same number and place, or accepted.
+-- An image whose contents entries all tell of a rule is checked as without 24: the same number and place, or accepted.
 pub checked-without : (b : List ℕ) → All TellsRules (entriesOf b) → imageCheck b ≡ imageWithout b
 unfolding imageCheck contentsCheck imageWithout
 checked-without b a =
     ap (λ (u : Reply). headCheck b then u then bodiesCheck b) (entries-without (formatIn b) (length b) (4 + 8 * countIn b) 0 1 (entriesOf b) a)
 
--- An image is accepted exactly when document 01 accepts it and every contents entry tells of a rule.
+-- An image is accepted exactly when it is accepted without 24 and every contents entry tells of a rule.
 pub accepted-exactly : (b : List ℕ) → (imageCheck b ≡ passed) ↔ ((imageWithout b ≡ passed) × All TellsRules (entriesOf b))
 accepted-exactly b = (
   (λ f. let a = every-entry-tells b f in (sym (checked-without b a) ∙ f, a)),

@@ -1,5 +1,5 @@
--- What refusal 24 takes away of writing, and that it takes nothing else: the writer takes exactly what document 01's writer takes, whose
--- checks have no 24, where no count is 0; and of counts that are not 0 it refuses as that one does.
+-- What refusal 24 turns away from the writer, and that it turns away nothing else: the writer takes exactly what its checks without 24 take
+-- where no count is 0; and where none is, it refuses as they do.
 use mathlib.Core.Path.{_≡_, refl, sym, ap, _∙_}
 use mathlib.Core.Logic.{_↔_}
 use mathlib.Core.List.{List, [], _∷_}
@@ -28,7 +28,7 @@ names-full l least (i ∷ is) (n ∷ ns) h f =
     let first = names-facts l least i n is ns f in
     (first .1, names-full (l + 1) (i + 1) is ns (omega arith) (first .3))
 
--- ---- the checks of document 01, without 24
+-- ---- the checks without 24, as they were before request 07
 
 unfoldable pub namesWithout : (l least : ℕ) → (ids counts : List ℕ) → Reply
 namesWithout l least [] ns = passed
@@ -38,7 +38,7 @@ namesWithout l least (i ∷ is) (n ∷ ns) =
     then sizeCheck l n
     then namesWithout (l + 1) (i + 1) is ns
 
--- Document 01's checks of a writer.
+-- The writer's checks without 24.
 unfoldable pub writeWithout : (f w : ℕ) → (ids counts cares values decisions : List ℕ) → (room : ℕ) → Reply
 writeWithout f w ids ns cs vs ds room =
     shapeCheck f w ids ns cs vs ds
@@ -57,7 +57,7 @@ names-without l least (i ∷ is) (n ∷ ns) a =
     then names-without (l + 1) (i + 1) is ns (a .1) j
 
 module _ (f w : ℕ) (ids ns cs vs ds : List ℕ) (room : ℕ) where
-  -- Counts that are all above 0 are checked as by document 01: the same number and place, or taken.
+  -- Where every list has a rule, the writer's checks are those without 24: the same number and place, or taken.
   pub write-checked-without : All CountsRules ns → writeCheck f w ids ns cs vs ds room ≡ writeWithout f w ids ns cs vs ds room
   unfolding writeCheck writeWithout
   write-checked-without a =
@@ -69,7 +69,7 @@ module _ (f w : ℕ) (ids ns cs vs ds : List ℕ) (room : ℕ) where
       then roomCheck (imageLength f (length ids) (length ds)) room)
       (names-without 1 0 ids ns a)
 
-  -- The writer takes exactly what document 01's writer takes where no count is 0.
+  -- The writer takes exactly what is taken without 24 where every list has a rule.
   pub write-takes-exactly : (writeCheck f w ids ns cs vs ds room ≡ passed) ↔ ((writeWithout f w ids ns cs vs ds room ≡ passed) × All CountsRules ns)
   write-takes-exactly = (
     (λ e.
