@@ -5,7 +5,7 @@ use Prim.Native.Nat.{ℕ, _+_, _*_}
 use lib.Dec.{leb, eqb}
 use lib.ListN.{length, getD}
 use Rattle.rules.specs.Rule.{Rule}
-use Rattle.rules.specs.Replies.{need, _then_}
+use Rattle.rules.specs.Replies.{need}
 use Rattle.rules.specs.Checks.{ruleCheck, rulesCheck}
 use Rattle.rules.proofs.ReplyLaws.{Bare, bare-need, bare-then}
 use Rattle.image_form.specs.Formats.{ruleSize, formatCheck, rangeCheck}

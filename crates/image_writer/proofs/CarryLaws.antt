@@ -25,7 +25,7 @@ use Rattle.image_check.proofs.HeadLaws.{entry-facts, head-facts}
 use Rattle.image_check.proofs.StepLaws.{contents-total}
 use Rattle.image.proofs.SeekLaws.{length-rulesIn}
 use Rattle.image.proofs.FullLaws.{HasRules, no-list-empty}
-use Rattle.image_writer.proofs.GivenLaws.{names-facts}
+use Rattle.image_writer.proofs.GivenLaws.{CountsRules, names-facts, names-full}
 use Rattle.image_writer.proofs.WriteLaws.{WriteFacts, facts-write, length-cut, rules-given}
 use Rattle.image.proofs.BackLaws.{AreBytes, bytes-drop, length-listsOf}
 use Rattle.image_writer.proofs.AgainLaws.{Rising, allRules, Carried}
@@ -47,15 +47,13 @@ rising-cut l least (i ∷ is) (n ∷ ns) rs a h s f =
       rising-cut (l + 1) (i + 1) is ns (drop n rs) (a .1) (omega arith) (omega (arith, length-drop n rs)) (first .3),
     )
 
-full-cut : (l least : ℕ) (ids ns : List ℕ) (rs : List Rule) → length ns ≡ length ids → sumOf ns ≤ length rs → namesCheck l least ids ns ≡ passed
-    → All HasRules (listsFrom ids ns rs)
+full-cut : (ids ns : List ℕ) (rs : List Rule) → sumOf ns ≤ length rs → All CountsRules ns → All HasRules (listsFrom ids ns rs)
 unfolding listsFrom sumOf
-full-cut l least [] ns rs h s f = tt
-full-cut l least (i ∷ is) [] rs h s f = absurd (omega arith)
-full-cut l least (i ∷ is) (n ∷ ns) rs h s f =
-    let first = names-facts l least i n is ns f in
+full-cut [] ns rs s a = tt
+full-cut (i ∷ is) [] rs s a = tt
+full-cut (i ∷ is) (n ∷ ns) rs s a =
     let t : length (take n rs) ≡ n = length-take-le n rs (omega arith) in
-    (omega (arith, t, first .1), full-cut (l + 1) (i + 1) is ns (drop n rs) (omega arith) (omega (arith, length-drop n rs)) (first .3))
+    (omega (arith, t, a .0), full-cut is ns (drop n rs) (omega (arith, length-drop n rs)) (a .1))
 
 all-cut : (ids ns : List ℕ) (rs : List Rule) → length ns ≡ length ids → sumOf ns ≤ length rs → allRules (listsFrom ids ns rs) ≡ sumOf ns
 unfolding listsFrom sumOf
@@ -80,7 +78,7 @@ facts-carried fmt w ids ns cs vs ds room a f =
       some = omega (arith, s .some);
       few = omega (arith, s .few);
       rising = rising-cut 1 0 ids ns rs a (s .paired) fits (f .names);
-      full = full-cut 1 0 ids ns rs (s .paired) fits (f .names);
+      full = full-cut ids ns rs fits (names-full 1 0 ids ns (s .paired) (f .names));
       rules = f .rules;
       size = omega (arith, f .small, l, ap (λ (k : ℕ). ruleSize fmt * k) (all-cut ids ns rs (s .paired) fits ∙ s .sums));
     }

@@ -3,8 +3,7 @@
 use mathlib.Core.Path.{_≡_, refl, sym, ap, _∙_}
 use mathlib.Core.Logic.{_↔_}
 use mathlib.Core.List.{List, [], _∷_}
-use Prim.Native.Nat.{ℕ, _+_, _≤_}
-use native.Mathlib.Omega.{arith}
+use Prim.Native.Nat.{ℕ, _+_}
 use lib.Dec.{leb}
 use lib.ListN.{length}
 use Rattle.rules.specs.Lists.{All}
@@ -13,20 +12,8 @@ use Rattle.rules.specs.Checks.{sizeCheck, roomCheck}
 use Rattle.image_check.specs.Checks.{listsCheck}
 use Rattle.image_check.proofs.FullLaws.{count-without}
 use Rattle.image_writer.specs.Writing.{given, namesCheck, imageLength, shapeCheck, writeCheck}
-use Rattle.image_writer.proofs.GivenLaws.{names-facts}
+use Rattle.image_writer.proofs.GivenLaws.{CountsRules, names-full}
 use Rattle.image_writer.proofs.WriteLaws.{write-facts}
-
--- A count of a list that has a rule.
-abbrev pub CountsRules : ℕ → Type 0
-CountsRules n = 1 ≤ n
-
-names-full : (l least : ℕ) (ids ns : List ℕ) → length ns ≡ length ids → namesCheck l least ids ns ≡ passed → All CountsRules ns
-names-full l least [] [] h f = tt
-names-full l least [] (n ∷ ns) h f = absurd (omega arith)
-names-full l least (i ∷ is) [] h f = absurd (omega arith)
-names-full l least (i ∷ is) (n ∷ ns) h f =
-    let first = names-facts l least i n is ns f in
-    (first .1, names-full (l + 1) (i + 1) is ns (omega arith) (first .3))
 
 -- ---- the checks without 24, as they were before request 07
 

@@ -9,6 +9,7 @@ use lib.Dec.{leb, eqb}
 use lib.ListN.{length, getD, take, drop, drop-of-length-le}
 use lib.Seq.{drop-cons, drop-drop}
 use borrow.Author.Tests.{eq-eqb, ne-eqb, le-leb, lt-leb, leb-true}
+use Rattle.rules.specs.Lists.{All}
 use Rattle.rules.specs.Rule.{Rule}
 use Rattle.rules.specs.declared.Refusal.{Refusal}
 use Rattle.rules.specs.declared.Verdict.{Verdict}
@@ -227,7 +228,20 @@ names-facts l least i n is ns f =
     let k = count-facts l n (bare-first (countCheck l n) _ (bare-count l n) [] g) in
     (leb-true _ _ (need-then (leb least i) 13 l 0 _ [] f), k .0, k .1, then-second (countCheck l n) _ [] g)
 
--- no list of names that passed is too long
+-- a count of a list that has a rule
+abbrev pub CountsRules : ℕ → Type 0
+CountsRules n = 1 ≤ n
+
+-- no list of names that passed is empty
+pub names-full : (l least : ℕ) (ids ns : List ℕ) → length ns ≡ length ids → namesCheck l least ids ns ≡ passed → All CountsRules ns
+names-full l least [] [] h f = tt
+names-full l least [] (n ∷ ns) h f = absurd (omega arith)
+names-full l least (i ∷ is) [] h f = absurd (omega arith)
+names-full l least (i ∷ is) (n ∷ ns) h f =
+    let first = names-facts l least i n is ns f in
+    (first .1, names-full (l + 1) (i + 1) is ns (omega arith) (first .3))
+
+-- and none is too long
 pub names-small : (l least : ℕ) (ids ns : List ℕ) (i : ℕ) → length ns ≡ length ids → namesCheck l least ids ns ≡ passed → getD ns i 0 ≤ 1024
 names-small l least [] [] i e f = omega arith
 names-small l least [] (n ∷ ns) i e f = absurd (omega arith)

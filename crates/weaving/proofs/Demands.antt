@@ -12,7 +12,7 @@ use Rattle.rules.specs.Rule.{Rule}
 use Rattle.rules.specs.Rules.{answer}
 use Rattle.rules.specs.declared.Refusal.{Refusal}
 use Rattle.rules.specs.Slices.{rulesOf, careOf, valueOf, decisionOf, caresOf, valuesOf, decisionsOf, Lent}
-use Rattle.rules.specs.Replies.{Reply, Gives, passed, _then_, unlessRefused}
+use Rattle.rules.specs.Replies.{Reply, Gives, passed, unlessRefused}
 use Rattle.rules.specs.Checks.{lengthsCheck, roomCheck, Sound}
 use Rattle.rules.specs.Calls.{checkList, lookedUp, decided}
 use Rattle.rules.proofs.ReplyLaws.{then-second}
