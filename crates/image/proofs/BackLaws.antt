@@ -1,7 +1,7 @@
 -- What was read, written again: the bytes of an image that passed.
 use mathlib.Core.Path.{_≡_, refl, sym, ap, ap₂, _∙_}
 use mathlib.Core.List.{List, [], _∷_, _++_}
-use Prim.Native.Nat.{ℕ, zero, suc, _+_, _-_, _*_, _≤_, _<_}
+use Prim.Native.Nat.{ℕ, zero, suc, _+_, _*_, _≤_, _<_}
 use native.Mathlib.Nat.{not-suc-le-zero}
 use native.Mathlib.Omega.{arith}
 use lib.Arith.{digits-div, digits-mod}
@@ -9,16 +9,15 @@ use lib.ListN.{length, getD, take, drop, length-drop, take-append-drop}
 use lib.Seq.{drop-drop, take-add, take-all}
 use Rattle.rules.specs.Lists.{All}
 use Rattle.rules.specs.Replies.{passed}
-use Rattle.rules.proofs.ReplyLaws.{then-second, bare-first}
 use Rattle.image_form.specs.Bytes.{le, numberIn, part, bytes}
 use Rattle.image_form.specs.Formats.{wordBytes, ruleSize}
 use Rattle.image_form.specs.declared.Entry.{Entry}
 use Rattle.image_form.specs.Images.{Named, entryWith, ruleIn, rulesIn, entryIn, entriesIn, listsIn, total, formatIn, countIn, widthIn, entriesOf, listsOf, ruleBytes, rulesBytes, bodiesBytes, entryBytes, entriesFor, contentsBytes, bytesOf}
-use Rattle.image_check.specs.Checks.{entryCheck, entriesCheck, contentsCheck, headCheck, imageCheck}
+use Rattle.image_check.specs.Checks.{entriesCheck, contentsCheck, imageCheck}
 use Rattle.image_form.proofs.FormatLaws.{rule-words}
 use Rattle.image_form.proofs.NumberLaws.{length-part}
-use Rattle.image_check.proofs.BareLaws.{bare-entry, bare-head, bare-contents}
-use Rattle.image_check.proofs.HeadLaws.{entry-facts, head-facts}
+use Rattle.image_check.proofs.HeadLaws.{head-facts}
+use Rattle.image_check.proofs.PassedLaws.{head-passed, contents-passed, entries-facts}
 use Rattle.image_check.proofs.StepLaws.{contents-total}
 use Rattle.image.proofs.SeekLaws.{length-entries, length-rulesIn}
 
@@ -96,13 +95,13 @@ length-lists fmt (e ∷ es) s = ap suc (length-lists fmt es (drop (ruleSize fmt 
 
 -- the entries that fine contents have are those that the writer makes
 pub entries-back : (fmt size next least l : ℕ) (es : List Entry) (s : List ℕ) → entriesCheck fmt size next least l es ≡ passed → entriesFor fmt next (listsIn fmt es s) ≡ es
-unfolding entriesFor listsIn entriesCheck
+unfolding entriesFor listsIn
 entries-back fmt size next least l [] s f = refl
 entries-back fmt size next least l (e ∷ es) s f =
-    let o : e .offset ≡ next = entry-facts fmt size next least l e (bare-first (entryCheck fmt size next least l e) _ (bare-entry fmt size next least l e) [] f) .starts in
+    let k = entries-facts fmt size next least l e es f in
     let n : length (rulesIn fmt (e .count) s) ≡ e .count = length-rulesIn fmt (e .count) s in
-    (λ j. entryWith (sym o j) (n j) (e .id) ∷ entriesFor fmt (next + ruleSize fmt * n j) (listsIn fmt es (drop (ruleSize fmt * e .count) s)))
-    ∙ ap (λ (r : List Entry). e ∷ r) (entries-back fmt size (next + ruleSize fmt * e .count) (e .id + 1) (l + 1) es (drop (ruleSize fmt * e .count) s) (then-second (entryCheck fmt size next least l e) _ [] f))
+    (λ j. entryWith (sym (k .0 .starts) j) (n j) (e .id) ∷ entriesFor fmt (next + ruleSize fmt * n j) (listsIn fmt es (drop (ruleSize fmt * e .count) s)))
+    ∙ ap (λ (r : List Entry). e ∷ r) (entries-back fmt size (next + ruleSize fmt * e .count) (e .id + 1) (l + 1) es (drop (ruleSize fmt * e .count) s) (k .1))
 
 head-back : (b : List ℕ) → 4 ≤ length b → b ≡ getD b 0 0 ∷ getD b 1 0 ∷ getD b 2 0 ∷ getD b 3 0 ∷ drop 4 b
 head-back [] h = absurd (not-suc-le-zero h)
@@ -142,10 +141,9 @@ entries-again b f = entries-back (formatIn b) (length b) (4 + 8 * countIn b) 0 1
 
 -- the bytes of an image that passed are those of its format, its width and its lists
 pub read-write : (b : List ℕ) → AreBytes b → imageCheck b ≡ passed → bytesOf (formatIn b) (widthIn b) (listsOf b) ≡ b
-unfolding imageCheck
 read-write b h f =
-    let c : contentsCheck b ≡ passed = bare-first (contentsCheck b) _ (bare-contents b) [] (then-second (headCheck b) _ [] f) in
-    let k = head-facts b (bare-first (headCheck b) _ (bare-head b) [] f) in
+    let c = contents-passed b f in
+    let k = head-facts b (head-passed b f) in
     bytes-are (formatIn b) (widthIn b) (countIn b) (listsOf b) (entriesOf b) (length-listsOf b) (entries-again b c)
     ∙ (λ j. formatIn b ∷ widthIn b ∷ countIn b ∷ sym (k .third) j ∷ rest-back b h (k .contents) (contents-total b c) j)
     ∙ sym (head-back b (k .least))

@@ -2,14 +2,15 @@
 use mathlib.Core.Path.{_≡_, refl, sym, ap, _∙_}
 use mathlib.Core.List.{List, [], _∷_}
 use mathlib.Core.Bool.{Bool, true, false, false≢true}
-use Prim.Native.Nat.{ℕ, zero, suc, _+_, _-_, _*_, _≤_, _<_}
+use Prim.Native.Nat.{ℕ, _+_, _-_, _*_, _≤_}
 use native.Mathlib.Nat.{mul-le-mul-right}
 use native.Mathlib.Omega.{arith}
 use lib.Dec.{leb, eqb}
-use lib.ListN.{length, getD, drop}
+use lib.ListN.{length, drop}
 use Rattle.rules.specs.Lists.{All}
 use Rattle.rules.specs.Replies.{Reply, passed, need, unlessRefused}
 use Rattle.rules.proofs.ReplyLaws.{then-second, need-passed, two-values, bare-first}
+use Rattle.rules.proofs.EntryLaws.{all-place}
 use Rattle.image.specs.declared.NumberAnswer.{NumberAnswer}
 use Rattle.image.specs.declared.Listed.{Listed}
 use Rattle.image.specs.declared.places.Place.{Place}
@@ -67,7 +68,7 @@ found-some b id f =
     omega (
       arith,
       length-with b id,
-      place-some (formatIn b) id (4 + 8 * countIn b) (entriesOf b) (every-entry-tells b (bare-first (imageCheck b) _ (bare-image b) [] f))
+      place-some (formatIn b) id (4 + 8 * countIn b) (entriesOf b) (every-entry-tells b (id-image b id f))
           (need-passed _ 15 0 0 (then-second (imageCheck b) _ [] f)),
     )
 
@@ -91,11 +92,6 @@ body-some b id f =
     ∙ length-part size (placeOf b id .from) b (place-fits b id (image-facts b [] (id-image b id f) .sums)) in
     omega (arith, long, found-some b id f, length-with b id, mul-le-mul-right n (rule-least (formatIn b)))
 
-tells-at : (es : List Entry) (k : ℕ) → All TellsRules es → k < length es → 1 ≤ getD es k (entryWith 0 0 0) .count
-tells-at [] k a h = absurd (omega arith)
-tells-at (e ∷ es) zero a h = a .0
-tells-at (e ∷ es) (suc k) a h = tells-at es k (a .1) (omega arith)
-
 -- `entry`, where it tells of a list, tells of a rule.
 pub entry-some : (b : List ℕ) (k id n : ℕ) → listedReply (Listed.List id n) ≡ entryReply b k → 1 ≤ n
 unfolding entryReply entriesOf
@@ -104,5 +100,5 @@ entry-some b k id n e =
     let range = entry-range b k ms (sym e) in
     let told =
     two-values (then-second (need (leb k (countIn b)) 15 0 0) _ ms (then-second (need (leb 1 k) 15 0 0) _ ms (then-second (imageCheck b) _ ms (sym e)))) in
-    let some = tells-at (entriesOf b) (k - 1) (every-entry-tells b (bare-first (imageCheck b) _ (bare-image b) ms (sym e))) (omega (arith, range .0, range .1, length-entries (countIn b) (drop 4 b))) in
+    let some = all-place TellsRules (entriesOf b) (k - 1) (entryWith 0 0 0) (every-entry-tells b (bare-first (imageCheck b) _ (bare-image b) ms (sym e))) (omega (arith, range .0, range .1, length-entries (countIn b) (drop 4 b))) in
     omega (arith, some, told .1)

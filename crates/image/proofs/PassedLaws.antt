@@ -10,17 +10,15 @@ use lib.Seq.{drop-drop}
 use Rattle.rules.specs.Rules.{Valid}
 use Rattle.rules.specs.Lists.{All}
 use Rattle.rules.specs.Replies.{passed}
-use Rattle.rules.specs.Checks.{widest, rulesCheck}
-use Rattle.rules.proofs.ReplyLaws.{then-second, bare-first}
-use Rattle.rules.proofs.CheckLaws.{rules-valid}
+use Rattle.rules.specs.Checks.{widest}
 use Rattle.image.specs.declared.places.Place.{Place}
 use Rattle.image_form.specs.Formats.{ruleSize}
 use Rattle.image_form.specs.declared.Entry.{Entry}
-use Rattle.image_form.specs.Images.{entryIn, formatIn, widthIn, countIn, entriesOf, rulesIn, listsIn, listsOf}
-use Rattle.image_check.specs.Checks.{entryCheck, entriesCheck, listsCheck, headCheck, contentsCheck, bodiesCheck, imageCheck}
+use Rattle.image_form.specs.Images.{named, entryIn, formatIn, widthIn, countIn, entriesOf, rulesIn, listsIn, listsOf}
+use Rattle.image_check.specs.Checks.{entriesCheck, listsCheck, contentsCheck, bodiesCheck, imageCheck}
 use Rattle.image.specs.Places.{placeIn, placeAt, pickPlace, placeOf, listWith}
-use Rattle.image_check.proofs.BareLaws.{bare-entry, bare-rules, bare-contents}
-use Rattle.image_check.proofs.HeadLaws.{entry-facts, head-narrow}
+use Rattle.image_check.proofs.HeadLaws.{head-narrow}
+use Rattle.image_check.proofs.PassedLaws.{contents-passed, bodies-passed, entries-facts, lists-facts}
 use Rattle.image.proofs.SeekLaws.{image-facts, place-start, place-here, length-rulesIn}
 
 -- ---- the rules at a place
@@ -34,18 +32,15 @@ pick-good fmt w b false x y p q = q
 
 place-good : (fmt w size next least l k id : ℕ) (b : List ℕ) (es : List Entry) → entriesCheck fmt size next least l es ≡ passed
     → listsCheck w k (listsIn fmt es (drop next b)) ≡ passed → Good fmt w b (placeIn fmt id next es)
-unfolding entriesCheck listsCheck listsIn placeIn rulesIn
+unfolding listsIn placeIn rulesIn
 place-good fmt w size next least l k id b [] f g = (omega arith, tt)
 place-good fmt w size next least l k id b (e ∷ es) f g =
-    let rs = rulesIn fmt (e .count) (drop next b) in
     let z : ℕ = ruleSize fmt * e .count in
-    pick-good fmt w b (eqb (e .id) id) (placeAt true next (e .count)) (placeIn fmt id (next + z) es) (
-      entry-facts fmt size next least l e (bare-first (entryCheck fmt size next least l e) _ (bare-entry fmt size next least l e) [] f) .few,
-      rules-valid w k 1 rs (bare-first (rulesCheck w k 1 rs) _ (bare-rules w k 1 rs) [] g),
-    )
-    (place-good fmt w size (next + z) (e .id + 1) (l + 1) (k + 1) id b es
-    (then-second (entryCheck fmt size next least l e) _ [] f)
-    (subst (λ (s : List ℕ). listsCheck w (k + 1) (listsIn fmt es s) ≡ passed) (drop-drop z next b) (then-second (rulesCheck w k 1 rs) _ [] g)))
+    let here = entries-facts fmt size next least l e es f in
+    let rules = lists-facts w k (named (e .id) (rulesIn fmt (e .count) (drop next b))) (listsIn fmt es (drop z (drop next b))) g in
+    pick-good fmt w b (eqb (e .id) id) (placeAt true next (e .count)) (placeIn fmt id (next + z) es) (here .0 .few, rules .0)
+    (place-good fmt w size (next + z) (e .id + 1) (l + 1) (k + 1) id b es (here .1)
+    (subst (λ (s : List ℕ). listsCheck w (k + 1) (listsIn fmt es s) ≡ passed) (drop-drop z next b) (rules .1)))
 
 -- ---- the list with an id
 
@@ -61,14 +56,10 @@ pub record ListFacts (b : List ℕ) (id : ℕ) : Type 0 where
   pub valid : All (Valid (widthIn b)) (listWith b id)
 
 pub list-facts : (b : List ℕ) (id : ℕ) → imageCheck b ≡ passed → ListFacts b id
-unfolding imageCheck contentsCheck bodiesCheck listsOf placeOf listWith
+unfolding contentsCheck bodiesCheck listsOf placeOf listWith
 list-facts b id f =
     let i = image-facts b [] f in
-    let rest = then-second (headCheck b) _ [] f in
-    let good =
-    place-good (formatIn b) (widthIn b) (length b) (4 + 8 * countIn b) 0 1 1 id b (entriesOf b) (bare-first (contentsCheck b) _ (bare-contents b) [] rest)
-    (then-second (contentsCheck b) _ [] rest)
-    in
+    let good = place-good (formatIn b) (widthIn b) (length b) (4 + 8 * countIn b) 0 1 1 id b (entriesOf b) (contents-passed b f) (bodies-passed b f) in
     record { least = i .head .wide; most = head-narrow b (i .head); few = good .0; valid = good .1 }
 
 -- ---- the first list

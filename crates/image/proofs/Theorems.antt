@@ -11,18 +11,18 @@ use lib.Seq.{drop-drop}
 use Rattle.rules.specs.Rule.{Rule}
 use Rattle.rules.specs.Rules.{rule}
 use Rattle.rules.specs.Replies.{Reply, passed, unlessRefused}
-use Rattle.rules.proofs.ReplyLaws.{then-second, bare-first}
+use Rattle.rules.proofs.ReplyLaws.{bare-first}
 use Rattle.image.specs.declared.places.Place.{Place}
 use Rattle.image_form.specs.Bytes.{part, le}
 use Rattle.image_form.specs.Formats.{wordBytes, ruleSize}
 use Rattle.image_form.specs.declared.Entry.{Entry}
 use Rattle.image_form.specs.Images.{Named, ruleIn, rulesIn, listsIn, total, formatIn, countIn, entriesOf, listsOf, rulesBytes}
-use Rattle.image_check.specs.Checks.{entryCheck, entriesCheck, headCheck, contentsCheck, imageCheck}
+use Rattle.image_check.specs.Checks.{entriesCheck, contentsCheck, imageCheck}
 use Rattle.image.specs.Places.{placeIn, placeAt, pickPlace, placeOf, listWith}
 use Rattle.image.specs.Calls.{idCheck, bodyOf}
 use Rattle.image_form.proofs.FormatLaws.{rule-words}
-use Rattle.image_check.proofs.BareLaws.{bare-image, bare-contents, bare-entry}
-use Rattle.image_check.proofs.HeadLaws.{entry-facts}
+use Rattle.image_check.proofs.BareLaws.{bare-image}
+use Rattle.image_check.proofs.PassedLaws.{contents-passed, entries-facts}
 use Rattle.image.proofs.SeekLaws.{image-facts, place-fits}
 use Rattle.image.proofs.BackLaws.{AreBytes, bytes-drop, rules-back}
 
@@ -115,17 +115,16 @@ body-bytes b id h f =
 
 offset-in : (fmt size next least l : ℕ) (es : List Entry) (k : ℕ) (d : Entry) → entriesCheck fmt size next least l es ≡ passed → k < length es
     → getD es k d .offset ≡ next + ruleSize fmt * total (take k es)
-unfolding entriesCheck total
+unfolding total
 offset-in fmt size next least l [] k d f h = absurd (omega arith)
 offset-in fmt size next least l (e ∷ es) zero d f h =
-    entry-facts fmt size next least l e (bare-first (entryCheck fmt size next least l e) _ (bare-entry fmt size next least l e) [] f) .starts ∙ omega arith
+    entries-facts fmt size next least l e es f .0 .starts ∙ omega arith
 offset-in fmt size next least l (e ∷ es) (suc k) d f h =
-    offset-in fmt size (next + ruleSize fmt * e .count) (e .id + 1) (l + 1) es k d (then-second (entryCheck fmt size next least l e) _ [] f) (omega arith)
+    offset-in fmt size (next + ruleSize fmt * e .count) (e .id + 1) (l + 1) es k d (entries-facts fmt size next least l e es f .1) (omega arith)
     ∙ omega arith
 
 -- In an accepted image an entry's offset is the running position: the contents' end and the bodies before it.
 pub offset-runs : (b : List ℕ) (k : ℕ) (d : Entry) → imageCheck b ≡ passed → k < length (entriesOf b)
     → getD (entriesOf b) k d .offset ≡ 4 + 8 * countIn b + ruleSize (formatIn b) * total (take k (entriesOf b))
-unfolding imageCheck contentsCheck
-offset-runs b k d f h =
-    offset-in (formatIn b) (length b) (4 + 8 * countIn b) 0 1 (entriesOf b) k d (bare-first (contentsCheck b) _ (bare-contents b) [] (then-second (headCheck b) _ [] f)) h
+unfolding contentsCheck
+offset-runs b k d f h = offset-in (formatIn b) (length b) (4 + 8 * countIn b) 0 1 (entriesOf b) k d (contents-passed b f) h

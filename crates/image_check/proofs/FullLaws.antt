@@ -10,13 +10,12 @@ use borrow.Author.Tests.{le-leb}
 use Rattle.rules.specs.Lists.{All}
 use Rattle.rules.specs.Replies.{Reply, passed, need, _then_}
 use Rattle.rules.specs.Checks.{sizeCheck}
-use Rattle.rules.proofs.ReplyLaws.{then-next, then-second, need-yes, bare-first}
+use Rattle.rules.proofs.ReplyLaws.{then-next, need-yes}
 use Rattle.image_form.specs.Formats.{ruleSize}
 use Rattle.image_form.specs.declared.Entry.{Entry}
 use Rattle.image_form.specs.Images.{formatIn, countIn, entriesOf}
 use Rattle.image_check.specs.Checks.{headCheck, countCheck, entryCheck, entriesCheck, contentsCheck, bodiesCheck, imageCheck}
-use Rattle.image_check.proofs.BareLaws.{bare-entry, bare-contents}
-use Rattle.image_check.proofs.HeadLaws.{entry-facts}
+use Rattle.image_check.proofs.PassedLaws.{contents-passed, entries-facts}
 
 -- A contents entry that tells of a rule.
 abbrev pub TellsRules : Entry → Type 0
@@ -25,18 +24,15 @@ TellsRules e = 1 ≤ e .count
 -- ---- what passed
 
 tells-in : (fmt size next least l : ℕ) (es : List Entry) → entriesCheck fmt size next least l es ≡ passed → All TellsRules es
-unfolding entriesCheck
 tells-in fmt size next least l [] f = tt
-tells-in fmt size next least l (e ∷ es) f = (
-  entry-facts fmt size next least l e (bare-first (entryCheck fmt size next least l e) _ (bare-entry fmt size next least l e) [] f) .some,
-  tells-in fmt size (next + ruleSize fmt * e .count) (e .id + 1) (l + 1) es (then-second (entryCheck fmt size next least l e) _ [] f),
-)
+tells-in fmt size next least l (e ∷ es) f =
+    let k = entries-facts fmt size next least l e es f in
+    (k .0 .some, tells-in fmt size (next + ruleSize fmt * e .count) (e .id + 1) (l + 1) es (k .1))
 
 -- Every contents entry of an accepted image tells of a rule.
 pub every-entry-tells : (b : List ℕ) → imageCheck b ≡ passed → All TellsRules (entriesOf b)
-unfolding imageCheck contentsCheck
-every-entry-tells b f =
-    tells-in (formatIn b) (length b) (4 + 8 * countIn b) 0 1 (entriesOf b) (bare-first (contentsCheck b) _ (bare-contents b) [] (then-second (headCheck b) _ [] f))
+unfolding contentsCheck
+every-entry-tells b f = tells-in (formatIn b) (length b) (4 + 8 * countIn b) 0 1 (entriesOf b) (contents-passed b f)
 
 -- ---- the checks without 24, as they were before request 07
 

@@ -2,6 +2,7 @@
 pub mod BareLaws
 pub mod CountLaws
 pub mod HeadLaws
+pub mod PassedLaws
 pub mod FullLaws
 pub mod StepLaws
 pub mod Unique

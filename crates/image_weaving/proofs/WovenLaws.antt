@@ -9,16 +9,15 @@ use lib.Seq.{take-suc}
 use native.Mathlib.Numerals.{add-one}
 use Rattle.rules.specs.Lists.{All}
 use Rattle.rules.specs.Replies.{passed}
-use Rattle.rules.specs.Checks.{rulesCheck}
-use Rattle.rules.proofs.ReplyLaws.{then-next, then-second, bare-first}
-use Rattle.rules.proofs.CheckLaws.{rules-valid, valid-rules}
+use Rattle.rules.proofs.ReplyLaws.{then-next}
+use Rattle.rules.proofs.CheckLaws.{valid-rules}
 use Rattle.weaving.specs.Weave.{weave}
 use Rattle.weaving.proofs.Theorems.{never-longer, weave-keeps-some, weave-keeps-valid}
 use Rattle.image_form.specs.Formats.{ruleSize}
 use Rattle.image_form.specs.Images.{Named, named}
 use Rattle.image_form.proofs.FormatLaws.{rule-least}
 use Rattle.image_check.specs.Checks.{listsCheck}
-use Rattle.image_check.proofs.BareLaws.{bare-rules}
+use Rattle.image_check.proofs.PassedLaws.{lists-facts}
 use Rattle.image.proofs.FullLaws.{HasRules}
 use Rattle.image_writer.proofs.AgainLaws.{Rising, allRules, Carried}
 use Rattle.image_writer.proofs.ListLaws.{listAt}
@@ -74,17 +73,16 @@ woven-pass : (w n : ℕ) (ls : List Named) → listsCheck w n ls ≡ passed → 
 unfolding wovenLists listsCheck
 woven-pass w n [] f = refl
 woven-pass w n (l ∷ ls) f =
-    let valid = rules-valid w n 1 (l .rules) (bare-first (rulesCheck w n 1 (l .rules)) _ (bare-rules w n 1 (l .rules)) [] f) in
-    then-next _ _ (valid-rules w n 1 (weave w (l .rules)) (weave-keeps-valid w (l .rules) valid))
-    ∙ woven-pass w (n + 1) ls (then-second (rulesCheck w n 1 (l .rules)) _ [] f)
+    let k = lists-facts w n l ls f in
+    then-next _ _ (valid-rules w n 1 (weave w (l .rules)) (weave-keeps-valid w (l .rules) (k .0))) ∙ woven-pass w (n + 1) ls (k .1)
 
 -- no list of the woven lists is empty where none of the lists is
 pub woven-full : (w n : ℕ) (ls : List Named) → listsCheck w n ls ≡ passed → All HasRules ls → All HasRules (wovenLists w ls)
-unfolding wovenLists listsCheck
+unfolding wovenLists
 woven-full w n [] f u = tt
 woven-full w n (l ∷ ls) f u =
-    let valid = rules-valid w n 1 (l .rules) (bare-first (rulesCheck w n 1 (l .rules)) _ (bare-rules w n 1 (l .rules)) [] f) in
-    (weave-keeps-some w (l .rules) valid (u .0), woven-full w (n + 1) ls (then-second (rulesCheck w n 1 (l .rules)) _ [] f) (u .1))
+    let k = lists-facts w n l ls f in
+    (weave-keeps-some w (l .rules) (k .0) (u .0), woven-full w (n + 1) ls (k .1) (u .1))
 
 pub woven-carried : (fmt w : ℕ) (ls : List Named) → Carried fmt w ls → Carried fmt w (wovenLists w ls)
 woven-carried fmt w ls v =

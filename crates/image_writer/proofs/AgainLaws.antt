@@ -15,17 +15,15 @@ use Rattle.rules.specs.Rule.{Rule}
 use Rattle.rules.specs.Rules.{rule, Valid}
 use Rattle.rules.specs.Lists.{All}
 use Rattle.rules.specs.Replies.{passed}
-use Rattle.rules.specs.Checks.{rulesCheck}
-use Rattle.rules.proofs.ReplyLaws.{then-next, then-second, bare-first}
-use Rattle.rules.proofs.CheckLaws.{rules-valid}
+use Rattle.rules.proofs.ReplyLaws.{then-next}
 use Rattle.image_form.specs.Bytes.{le, numberIn, bytes}
 use Rattle.image_form.specs.Formats.{known, wordBytes, ruleSize, mostPlaces}
 use Rattle.image_form.specs.declared.Entry.{Entry}
 use Rattle.image_form.specs.Images.{Named, entryWith, ruleIn, rulesIn, entryIn, entriesIn, listsIn, entriesOf, listsOf, ruleBytes, rulesBytes, bodiesBytes, entryBytes, entriesFor, contentsBytes, bytesOf}
 use Rattle.image_check.specs.Checks.{entriesCheck, listsCheck, contentsCheck, headCheck, bodiesCheck, imageCheck}
 use Rattle.image_form.proofs.FormatLaws.{rule-words, places-words, places-bytes}
-use Rattle.image_check.proofs.BareLaws.{bare-rules}
 use Rattle.image_check.proofs.HeadLaws.{entry-fine, head-fine}
+use Rattle.image_check.proofs.PassedLaws.{lists-facts}
 use Rattle.image.proofs.FullLaws.{HasRules}
 use Rattle.image_writer.proofs.PutLaws.{length-bytes, length-rulesBytes, length-contents}
 
@@ -127,18 +125,17 @@ length-bodies fmt (l ∷ ls) = simp length-append (omega (arith, length-rulesByt
 
 lists-read : (fmt w l next : ℕ) (ls : List Named) (t : List ℕ) → w ≤ mostPlaces fmt → listsCheck w l ls ≡ passed
     → listsIn fmt (entriesFor fmt next ls) (bodiesBytes fmt ls ++ t) ≡ ls
-unfolding listsIn entriesFor bodiesBytes listsCheck
+unfolding listsIn entriesFor bodiesBytes
 lists-read fmt w l next [] t h f = refl
 lists-read fmt w l next (x ∷ ls) t h f =
-    let valid = rules-valid w l 1 (x .rules) (bare-first (rulesCheck w l 1 (x .rules)) _ (bare-rules w l 1 (x .rules)) [] f) in
-    let rest = then-second (rulesCheck w l 1 (x .rules)) _ [] f in
+    let k = lists-facts w l x ls f in
     let n : ℕ = length (x .rules) in
     let es : List Entry = entriesFor fmt (next + ruleSize fmt * n) ls in
     let u : List ℕ = bodiesBytes fmt ls ++ t in
     ap (λ (s : List ℕ). record { id = x .id; rules = rulesIn fmt n s } ∷ listsIn fmt es (drop (ruleSize fmt * n) s)) (append-assoc (rulesBytes fmt (x .rules)) (bodiesBytes fmt ls) t)
-    ∙ (λ j. record { id = x .id; rules = rules-read fmt w (x .rules) u h valid j }
+    ∙ (λ j. record { id = x .id; rules = rules-read fmt w (x .rules) u h (k .0) j }
     ∷ listsIn fmt es (drop-at (rulesBytes fmt (x .rules)) u (ruleSize fmt * n) (length-rulesBytes fmt (x .rules)) j))
-    ∙ ap (λ (ys : List Named). x ∷ ys) (lists-read fmt w (l + 1) (next + ruleSize fmt * n) ls t h rest)
+    ∙ ap (λ (ys : List Named). x ∷ ys) (lists-read fmt w (l + 1) (next + ruleSize fmt * n) ls t h (k .1))
 
 -- the entries that the writer makes
 length-entriesFor : (fmt next : ℕ) (ls : List Named) → length (entriesFor fmt next ls) ≡ length ls

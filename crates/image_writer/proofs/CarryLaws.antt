@@ -10,18 +10,18 @@ use Rattle.rules.specs.Rule.{Rule}
 use Rattle.rules.specs.Lists.{All}
 use Rattle.rules.specs.Replies.{passed}
 use Rattle.rules.specs.Slices.{rulesOf, careOf, valueOf, decisionOf, caresOf, valuesOf, decisionsOf}
-use Rattle.rules.proofs.ReplyLaws.{then-next, then-second, need-yes, bare-first}
+use Rattle.rules.proofs.ReplyLaws.{then-next, need-yes}
 use Rattle.image_form.specs.Bytes.{le}
 use Rattle.words.specs.Slices.{halvesOf}
 use Rattle.words.proofs.SliceLaws.{halves-length}
 use Rattle.image_form.specs.Formats.{ruleSize}
 use Rattle.image_form.specs.declared.Entry.{Entry}
 use Rattle.image_form.specs.Images.{Named, named, listsIn, total, formatIn, countIn, widthIn, entriesIn, entriesOf, listsOf}
-use Rattle.image_check.specs.Checks.{entryCheck, entriesCheck, listsCheck, contentsCheck, headCheck, bodiesCheck, imageCheck}
+use Rattle.image_check.specs.Checks.{entriesCheck, listsCheck, contentsCheck, bodiesCheck, imageCheck}
 use Rattle.image_writer.specs.Writing.{sumOf, listsFrom, given, namesCheck, imageLength, writeCheck}
-use Rattle.image_check.proofs.BareLaws.{bare-entry, bare-head, bare-contents}
 use Rattle.image_check.proofs.CountLaws.{count-fine}
-use Rattle.image_check.proofs.HeadLaws.{entry-facts, head-facts}
+use Rattle.image_check.proofs.HeadLaws.{head-facts}
+use Rattle.image_check.proofs.PassedLaws.{head-passed, contents-passed, bodies-passed, entries-facts}
 use Rattle.image_check.proofs.StepLaws.{contents-total}
 use Rattle.image.proofs.SeekLaws.{length-rulesIn}
 use Rattle.image.proofs.FullLaws.{HasRules, no-list-empty}
@@ -173,14 +173,14 @@ carried-writes fmt w ls room v h =
 -- ---- the lists of an image that passed can be carried
 
 rising-in : (fmt size next least l : ℕ) (es : List Entry) (s : List ℕ) → All (λ (e : Entry). e .id < 65536) es → entriesCheck fmt size next least l es ≡ passed → Rising least (listsIn fmt es s)
-unfolding entriesCheck listsIn
+unfolding listsIn
 rising-in fmt size next least l [] s a f = tt
 rising-in fmt size next least l (e ∷ es) s a f =
-    let k = entry-facts fmt size next least l e (bare-first (entryCheck fmt size next least l e) _ (bare-entry fmt size next least l e) [] f) in (
-      k .rises,
+    let k = entries-facts fmt size next least l e es f in (
+      k .0 .rises,
       a .0,
-      omega (arith, k .few, length-rulesIn fmt (e .count) s),
-      rising-in fmt size (next + ruleSize fmt * e .count) (e .id + 1) (l + 1) es (drop (ruleSize fmt * e .count) s) (a .1) (then-second (entryCheck fmt size next least l e) _ [] f),
+      omega (arith, k .0 .few, length-rulesIn fmt (e .count) s),
+      rising-in fmt size (next + ruleSize fmt * e .count) (e .id + 1) (l + 1) es (drop (ruleSize fmt * e .count) s) (a .1) (k .1),
     )
 
 all-in : (fmt : ℕ) (es : List Entry) (s : List ℕ) → allRules (listsIn fmt es s) ≡ total es
@@ -214,11 +214,10 @@ ids-fit b h = ids-below (countIn b) (drop 4 b) (bytes-drop 4 b h)
 
 pub image-carried : (b : List ℕ) → All (λ (e : Entry). e .id < 65536) (entriesOf b) → imageCheck b ≡ passed
     → Carried (formatIn b) (widthIn b) (listsOf b) × (imageLength (formatIn b) (length (listsOf b)) (allRules (listsOf b)) ≡ length b)
-unfolding imageCheck contentsCheck bodiesCheck
+unfolding bodiesCheck
 image-carried b a f =
-    let k = head-facts b (bare-first (headCheck b) _ (bare-head b) [] f) in
-    let g = then-second (headCheck b) _ [] f in
-    let c : contentsCheck b ≡ passed = bare-first (contentsCheck b) _ (bare-contents b) [] g in
+    let k = head-facts b (head-passed b f) in
+    let c = contents-passed b f in
     let l = length-listsOf b in
     let n = sums-in b in
     let m = ap (λ (k : ℕ). ruleSize (formatIn b) * k) n in
@@ -231,7 +230,7 @@ image-carried b a f =
         few = omega (arith, k .few);
         rising = rises-in b a c;
         full = no-list-empty b f;
-        rules = then-second (contentsCheck b) _ [] g;
+        rules = bodies-passed b f;
         size = omega (arith, k .most);
       },
       omega arith,
