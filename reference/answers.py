@@ -156,6 +156,10 @@ class Words:
     def width(self):
         return self.number("width", 2**32 - 1)
 
+    def range(self):
+        """The bits of a field, and the first and the last number of a range of it."""
+        return [self.number(name, 2**32 - 1) for name in ("bits", "low", "high")]
+
 
 def bytes_of(word, size):
     """A number in so many bytes, the lowest first."""
@@ -501,6 +505,21 @@ def compare_first_outcomes(words):
     return lambda: compared(results, model.compare_first_outcomes, old, old_default, new, new_default, start)
 
 
+def range_prefixes(words):
+    range, care, value = words.range(), words.numbers("care", 65535), words.numbers("value", 65535)
+
+    def asked():
+        text = said(model.range_prefixes, *range, care, value)
+        return "%s care %s value %s" % (text, numbers_said(care), numbers_said(value))
+
+    return asked
+
+
+def range_prefix_count(words):
+    range = words.range()
+    return lambda: said(model.range_prefix_count, *range)
+
+
 CALLS = {
     "check_list": check_list,
     "check_list_as": check_list_as,
@@ -540,6 +559,8 @@ CALLS = {
     "compare_first": compare_first,
     "compare_list_outcomes": compare_list_outcomes,
     "compare_first_outcomes": compare_first_outcomes,
+    "range_prefixes": range_prefixes,
+    "range_prefix_count": range_prefix_count,
 }
 
 

@@ -17,6 +17,7 @@ from model import HALF, WIDEST, Swap, slices_of, words_and_decisions
 
 MOST_BYTES = 65600  # of a slice of bytes in a case
 BAD_WIDTHS = [0, 129, 130, 192, 255, 256, 2**31, 2**32 - 1]
+BAD_FIELDS = [0, 0, 17, 17, 18, 31, 32, 33, 64, 255, 256, 65536, 2**31, 2**32 - 1]
 
 
 # What is handed in, as text. ---------------------------------------------------------------------------------------------
@@ -151,6 +152,27 @@ class Maker:
     def swap(self, width):
         return model.swap_of(self.random.sample(range(1, width + 1), width))
 
+    def field(self):
+        """The bits of a field: often those of a port, else any."""
+        return self.pick(16, 16, self.random.randint(1, 16), self.random.randint(1, 6), self.random.randint(7, 15))
+
+    def number_in(self, bits):
+        """A number of a field: any, beside a power of two, or near an end of the field."""
+        last, any = 2**bits - 1, self.random.getrandbits(bits)
+        beside = min(2 ** self.random.randint(0, bits) + self.pick(-1, -1, 0, 0, 1), last)
+        return self.pick(any, any, beside, beside, min(self.pick(0, 1, 2), last), max(last - self.pick(0, 1, 2), 0))
+
+    def range_in(self, bits):
+        """Low and high of a field: any two numbers, neighbours, one number twice, the ends of the field or the numbers beside them, the
+        ends of a prefix, or these moved by one."""
+        last, stars = 2**bits - 1, self.random.randint(0, bits)
+        a, b = self.number_in(bits), self.number_in(bits)
+        first = self.random.getrandbits(bits) >> stars << stars
+        prefix = first + self.pick(-1, 0, 0, 0, 1), first + 2**stars - 1 + self.pick(-1, 0, 0, 0, 1)
+        few = a, a + self.pick(1, 2, 3, 9)
+        ends = self.pick((a, b), (a, b), (a, b), few, (a, a), (0, b), (a, last), (0, last), (1, last - 1), prefix, prefix)
+        return sorted(min(max(number, 0), last) for number in ends)
+
     # Damage. Each of these takes a good part and hands back a worse one.
 
     def bad_width(self, width):
@@ -230,6 +252,18 @@ class Maker:
             width += 1
         return Swap(places, width)
 
+    def bad_field(self, bits):
+        """Also one whose low bits are those of a good field."""
+        return self.pick(*BAD_FIELDS, bits + self.pick(16, 32, 256, 65536, 2**31))
+
+    def bad_range(self, bits, low, high):
+        """Low above high, high outside the field, or both; often by numbers that would be good without their high bits."""
+        more = self.pick(2**bits, 65536, 2**31, 2**32 - 65536)
+        far = self.pick(2**bits, 2**bits + 1, 65536, 2**31, 2**32 - 1)
+        if self.chance(40):
+            return self.pick((high + 1, high), (high + 1, low), (low + more, high), (far, high))
+        return self.pick((low, high + more), (low + more, high + more), (low, far), (far, far))
+
     # Parts that are damaged now and then.
 
     def any_width(self, width, percent=6):
@@ -261,6 +295,15 @@ class Maker:
     def any_swap(self, width, percent=20):
         swap = self.swap(width)
         return self.bad_swap(swap) if self.chance(percent) else swap
+
+    def any_range(self, percent):
+        """A field and a range of it, and how many prefixes that takes before either of the two is damaged."""
+        bits = self.field()
+        low, high = self.range_in(bits)
+        need = model.range_prefix_count(bits, low, high)
+        if self.chance(percent):
+            low, high = self.bad_range(bits, low, high)
+        return self.bad_field(bits) if self.chance(percent) else bits, low, high, need
 
     def room(self, need):
         """The places of a result: most often enough."""
@@ -763,6 +806,21 @@ def compare_first_outcomes(make):
     return "%s start %d into %s" % (text, start, make.run_marks())
 
 
+def range_prefixes(make):
+    """Now and then a case in which several things are wrong."""
+    percent = make.pick(4, 4, 4, 4, 50)
+    bits, low, high, need = make.any_range(percent)
+    room = make.room(need)
+    care, value = make.numbers(room, room)
+    if percent > 4 and make.chance(percent):
+        care, value = make.pick((0, 0), (0, 1), (need, 0), (need - 1, need), (need, need - 1), (need - 1, need - 1))
+    return "range_prefixes bits %d low %d high %d care %s value %s" % (bits, low, high, marks(40000, care), marks(50000, value))
+
+
+def range_prefix_count(make):
+    return "range_prefix_count bits %d low %d high %d" % make.any_range(10)[:3]
+
+
 KINDS = {
     "rules": {
         "check_list": check_list,
@@ -785,6 +843,7 @@ KINDS = {
         "compare_list_outcomes": compare_list_outcomes,
         "compare_first_outcomes": compare_first_outcomes,
     },
+    "ranges": {"range_prefixes": range_prefixes, "range_prefix_count": range_prefix_count},
 }
 
 

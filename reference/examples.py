@@ -1,6 +1,6 @@
-"""The worked examples of the rules, held against the model, and the model's shorter ways against walks over every header.
-Prints how many hold; `python3 examples.py [DIR]` also holds the model's bench program to each folder of DIR that has
-old.img, new.img and stdout."""
+"""The worked examples of the rules, held against the model, and the model's shorter ways against walks over every header and over
+every prefix of a field. Prints how many hold; `python3 examples.py [DIR]` also holds the model's bench program to each folder of
+DIR that has old.img, new.img and stdout."""
 import os
 import sys
 
@@ -54,6 +54,27 @@ def compared(width, old, new, start=0, room=10):
 
 def outcomes(width, old, old_default, new, new_default, start=0, room=10):
     return runs_found(room, model.compare_outcomes, width, slices(old), old_default, slices(new), new_default, start)
+
+
+def prefixes(bits, low, high):
+    """The prefixes of a range, as patterns, in results with a place more than they take."""
+    count = model.range_prefix_count(bits, low, high)
+    care, value = [9999] * (count + 1), [8888] * (count + 1)
+    assert model.range_prefixes(bits, low, high, care, value) == count and (care[count], value[count]) == (9999, 8888)
+    return [model.pattern(bits, c, v) for c, v in zip(care[:count], value[:count])]
+
+
+def range_refusal(bits, low, high, cares, values):
+    """The refusal of a range with results of so many places, none of which it changes; None where it is taken."""
+    care, value = [9999] * cares, [8888] * values
+    found = refusal(model.range_prefixes, bits, low, high, care, value)
+    assert found is None or (care, value) == ([9999] * cares, [8888] * values)
+    return found
+
+
+def ranges(bits):
+    """Every range of a field."""
+    return [(low, high) for low in range(2**bits) for high in range(low, 2**bits)]
 
 
 def all_seven(*patterns):
@@ -126,6 +147,28 @@ def examples():
     wide = bytes([2, 65, 1, 0, 12, 0, 0, 0, 1, 0, 1, 0] + [0] * 8 + [1] + [0] * 23 + [1, 0])
     yield image_of(2, 65, [[("0" + "*" * 64, 1)]]) == wide and len(wide) == 46 and refusal(model.check_image, wide) is None
     yield refusal(model.check_image, b"\1" + wide[1:]) == (1, 0, 0) and refusal(model.check_image, b"\3" + wide[1:]) == (11, 0, 0)
+    yield prefixes(3, 1, 5) == ["001", "01*", "10*"] and model.range_prefix_count(16, 1, 65534) == 30
+    yield prefixes(1, 0, 0) == ["0"] and prefixes(1, 1, 1) == ["1"] and prefixes(1, 0, 1) == ["*"]
+    yield prefixes(3, 1, 6) == ["001", "01*", "10*", "110"] and prefixes(3, 0, 6) == ["0**", "10*", "110"]
+    yield prefixes(3, 2, 5) == ["01*", "10*"] and prefixes(3, 3, 4) == ["011", "100"] and prefixes(3, 4, 7) == ["1**"]
+    yield prefixes(16, 1024, 65535) == ["0" * k + "1" + "*" * (15 - k) for k in range(5, -1, -1)]
+    for bits in range(1, 17):
+        last, half = 2**bits - 1, 2 ** (bits - 1)
+        yield prefixes(bits, 0, last) == ["*" * bits] and prefixes(bits, half, last) == ["1" + "*" * (bits - 1)]
+        yield prefixes(bits, 0, 0) == ["0" * bits] and prefixes(bits, last, last) == ["1" * bits]
+        yield prefixes(bits, last // 3, last // 3) == [("01" * bits)[:bits]]
+        yield refusal(model.range_prefix_count, bits, last, last + 1) == refusal(model.range_prefix_count, bits, 1, 0) == (20, 0, 0)
+    for bits in range(2, 17):
+        last = 2**bits - 1
+        yield model.range_prefix_count(bits, 1, last - 1) == 2 * bits - 2
+        yield model.range_prefix_count(bits, 0, last - 1) == model.range_prefix_count(bits, 1, last) == bits
+    for bits in range(1, 9):
+        yield max(model.range_prefix_count(bits, *ends) for ends in ranges(bits)) == max(2 * bits - 2, 1)
+    for bits in (0, 17, 2**32 - 1):
+        yield refusal(model.range_prefix_count, bits, 1, 0) == range_refusal(bits, 1, 0, 0, 1) == (1, 0, 0)
+    yield range_refusal(3, 5, 4, 0, 1) == range_refusal(3, 5, 8, 0, 1) == range_refusal(3, 8, 8, 0, 0) == (20, 0, 0)
+    yield range_refusal(3, 1, 5, 0, 1) == range_refusal(3, 1, 5, 3, 2) == range_refusal(3, 1, 5, 4, 5) == (2, 0, 0)
+    yield [range_refusal(3, 1, 5, room, room) for room in range(5)] == [(7, 0, 0)] * 3 + [None] * 2
 
 
 def headers(width):
@@ -159,6 +202,30 @@ def walks():
                 yield (model.distance_text(a, b) == 0) == any(of_a and of_b for of_a, of_b in both)
 
 
+def every_prefix(field):
+    """All prefixes of a field, each with its next shorter one; that of the whole field is None."""
+    yield "*" * field, None
+    for stars in range(1, field + 1):
+        for number in range(2 ** (field - stars)):
+            shorter = model.bits(field, number << stars)[: field - stars] + "*" * stars
+            for digit in "01":
+                yield shorter.replace("*", digit, 1), shorter
+
+
+def prefix_walks():
+    """All prefixes of a field that lie within a range and have no shorter one that does, against what the model says: every range of
+    small fields, and some of the largest field."""
+    make = cases.Maker(2)
+    small = [(bits, ranges(bits)) for bits in range(1, 7)]
+    largest = [(16, [(1, 65534), (0, 65535)] + [make.range_in(16) for _ in range(4)])]
+    for bits, some in small + largest:
+        all = [(model.first_number(prefix), model.last_number(prefix), prefix, shorter) for prefix, shorter in every_prefix(bits)]
+        for low, high in some:
+            inside = {prefix: shorter for first, last, prefix, shorter in all if low <= first and last <= high}
+            kept = [prefix for prefix, shorter in inside.items() if shorter not in inside]
+            yield prefixes(bits, low, high) == sorted(kept, key=model.first_number)
+
+
 def joined(stretches):
     """The headers on which the answers differ, one by one."""
     for first, last, a, b in stretches:
@@ -190,7 +257,7 @@ def folders(top):
 
 
 if __name__ == "__main__":
-    held = list(examples()) + list(walks())
+    held = list(examples()) + list(walks()) + list(prefix_walks())
     if len(sys.argv) > 1:
         held += folders(sys.argv[1])
     print("%d hold, %d do not" % (held.count(True), held.count(False)))

@@ -18,6 +18,7 @@ LARGEST_IMAGE = 65536  # bytes
 MOST_LISTS = 16  # lists of an image
 HEAD, ENTRY = 4, 8  # bytes of an image's head, and of an entry of its contents
 WORD = {1: 8, 2: 16}  # the formats of images, and the bytes of a word in each
+LARGEST_FIELD = 16  # bits of a field that has ranges
 
 
 class Refused(Exception):
@@ -299,6 +300,78 @@ def prefix_swap(width, care, value, decision):
                 raise Refused(8, i + 1, j + 1)
     starred = {place: sum(1 for text in texts if text[place - 1] == "*") for place in range(1, width + 1)}
     return swap_of(sorted(range(1, width + 1), key=lambda place: (starred[place], place)))
+
+
+# Ranges of a field. A prefix is a pattern with its stars at the end; the next shorter one has one star more. ------------
+
+
+def check_range(bits, low, high):
+    """1 for the field, then 20 for the range."""
+    if not 1 <= bits <= LARGEST_FIELD:
+        raise Refused(1)
+    if low > high or high >= 2**bits:
+        raise Refused(20)
+
+
+def first_number(prefix):
+    """The least number that matches the prefix."""
+    return int(prefix.replace("*", "0"), 2)
+
+
+def last_number(prefix):
+    """The greatest one."""
+    return int(prefix.replace("*", "1"), 2)
+
+
+def within(prefix, low, high):
+    """Every number that matches the prefix is in the range."""
+    return low <= first_number(prefix) and last_number(prefix) <= high
+
+
+def prefixes_with(field, number):
+    """Every prefix of a field of so many bits that the number matches, the shortest first, which is the whole field."""
+    digits = bits(field, number)
+    return [digits[:length] + "*" * (field - length) for length in range(field + 1)]
+
+
+def with_one_star_less(prefix):
+    """The two prefixes whose next shorter one this is; none where it has no star."""
+    return [prefix.replace("*", digit, 1) for digit in "01" if "*" in prefix]
+
+
+def prefixes_of_range(field, low, high):
+    """The prefixes that lie within the range and whose next shorter one does not, rising. The whole field has no shorter one. Where
+    the next shorter one does not lie within the range, it has numbers of the range and others, so low or high is one that matches it:
+    only those have to be looked at."""
+    whole = "*" * field
+    if within(whole, low, high):
+        return [whole]
+    found = set()
+    for shorter in prefixes_with(field, low) + prefixes_with(field, high):
+        if not within(shorter, low, high):
+            found.update(prefix for prefix in with_one_star_less(shorter) if within(prefix, low, high))
+    return sorted(found, key=first_number)
+
+
+def range_prefix_count(bits, low, high):
+    """The number of prefixes that the range takes."""
+    check_range(bits, low, high)
+    return len(prefixes_of_range(bits, low, high))
+
+
+def range_prefixes(bits, low, high, care, value):
+    """The same number; the prefixes' words are put into the results, which have one number to a word, and later places stay. 1 and
+    20, then 2 where the results differ in length, then 7 where they have too few places."""
+    check_range(bits, low, high)
+    if len(care) != len(value):
+        raise Refused(2)
+    prefixes = prefixes_of_range(bits, low, high)
+    count = len(prefixes)
+    if len(care) < count:
+        raise Refused(7)
+    care[:count] = [care_word(prefix) for prefix in prefixes]
+    value[:count] = [value_word(prefix) for prefix in prefixes]
+    return count
 
 
 # Runs and weaving. ------------------------------------------------------------------------------------------------------

@@ -1,0 +1,151 @@
+-- No list of prefixes of the field, overlapping or not, that covers exactly a range has fewer than the range's own.
+use mathlib.Core.Path.{_≡_, refl, sym, ap, ap₂, _∙_}
+use mathlib.Core.List.{List, [], _∷_}
+use Prim.Native.Nat.{ℕ, suc, _+_, _-_, _%_, _^_, _≤_, _<_, min}
+use native.Mathlib.Omega.{arith}
+use native.Mathlib.Nat.{pow-suc, mod-eq-of-lt, zero-add}
+use lib.Dec.{ltb}
+use lib.Pow.{pow-pos}
+use lib.ListN.{length}
+use borrow.Author.Tests.{ltb-true, ltb-false}
+use Rattle.words.proofs.Tests.{split as by}
+use Rattle.rules.specs.Lists.{All}
+use Rattle.rules.proofs.EntryLaws.{all-map}
+use Rattle.ranges.specs.Prefixes.{Prefix, prefix, PrefixOf}
+use Rattle.ranges.specs.Ranges.{covering}
+use Rattle.ranges.proofs.PrefixLaws.{inside, inside-yes, inside-early, inside-late, inside-facts, inside-left, inside-right, inside-up, spans, held, held-past, prefix-end, clear-before}
+use Rattle.ranges.proofs.CoverLaws.{Whole, parts-length, Fact, OfWhole, OfParts, every-range}
+
+-- A list covers exactly the numbers from low on and below the end, each once or more often.
+abbrev pub Covers : (low end : ℕ) → List Prefix → Type 0
+Covers low end qs = (n : ℕ) → min 1 (held qs n) ≡ inside low end n
+
+abbrev Fewest : Fact
+Fewest b low end ps = (qs : List Prefix) → All (PrefixOf b) qs → Covers low end qs → length ps ≤ length qs
+
+-- one number takes one prefix
+fewest-whole : OfWhole Fewest
+unfolding held
+fewest-whole b [] a c = absurd (omega (arith, c 0, inside-yes 0 (2 ^ b) 0 (omega arith) (pow-pos b)))
+fewest-whole b (q ∷ qs) a c = omega arith
+
+-- ---- prefixes of both halves
+
+-- A list without the prefix that is all stars, taken apart: what it covers in the left half, and in the right half, moved down.
+record Halves (b : ℕ) (qs : List Prefix) : Type 0 where
+  left : List Prefix
+  right : List Prefix
+  lefts : All (PrefixOf b) left
+  rights : All (PrefixOf b) right
+  size : length left + length right ≡ length qs
+  low : (n : ℕ) → n < 2 ^ b → held qs n ≡ held left n
+  high : (n : ℕ) → held qs (n + 2 ^ b) ≡ held right n
+
+abbrev lowered : (n : ℕ) → Prefix → Prefix
+lowered n p = prefix (p .stars) (p .first - n)
+
+-- a prefix of the left half more
+module _ (b : ℕ) (q : Prefix) (v : PrefixOf (suc b) q) (s : q .stars ≤ b) (qs : List Prefix) (x : Halves b qs) where
+  of-left : q .first < 2 ^ b → PrefixOf b q
+  of-left l = record { fits = s; within = l; clear = v .clear }
+
+  more-left : q .first < 2 ^ b → Halves b (q ∷ qs)
+  unfolding held
+  more-left l =
+      let e : q .first + 2 ^ q .stars ≤ 2 ^ b = prefix-end b q (of-left l) in
+      record {
+        left = q ∷ x .left;
+        right = x .right;
+        lefts = (of-left l, x .lefts);
+        rights = x .rights;
+        size = omega (arith, x .size);
+        low = λ n h. ap (λ (k : ℕ). spans q n + k) (x .low n h);
+        high = λ n. ap₂ (λ (i k : ℕ). i + k) (inside-late (q .first) (q .first + 2 ^ q .stars) (n + 2 ^ b) (omega arith)) (x .high n) ∙ zero-add _;
+      }
+
+  -- or of the right half
+  of-right : 2 ^ b ≤ q .first → PrefixOf b (lowered (2 ^ b) q)
+  of-right l =
+      record { fits = s; within = omega (arith, v .within, pow-suc 2 b, l); clear = clear-before b (q .stars) (q .first) s l ∙ v .clear }
+
+  moved : 2 ^ b ≤ q .first → (n : ℕ) → spans q (n + 2 ^ b) ≡ spans (lowered (2 ^ b) q) n
+  moved l n =
+      let f : q .first ≡ q .first - 2 ^ b + 2 ^ b = omega arith in
+      let e : q .first + 2 ^ q .stars ≡ q .first - 2 ^ b + 2 ^ q .stars + 2 ^ b = omega arith in
+      let z : n + 2 ^ b - 2 ^ b ≡ n = omega arith in
+      ap₂ (λ (i k : ℕ). inside i k (n + 2 ^ b)) f e
+      ∙ inside-up (q .first - 2 ^ b) (q .first - 2 ^ b + 2 ^ q .stars) (2 ^ b) (n + 2 ^ b) (omega arith)
+      ∙ ap (λ (i : ℕ). inside (q .first - 2 ^ b) (q .first - 2 ^ b + 2 ^ q .stars) i) z
+
+  more-right : 2 ^ b ≤ q .first → Halves b (q ∷ qs)
+  unfolding held
+  more-right l =
+      record {
+        left = x .left;
+        right = lowered (2 ^ b) q ∷ x .right;
+        lefts = x .lefts;
+        rights = (of-right l, x .rights);
+        size = omega (arith, x .size);
+        low = λ n h. ap₂ (λ (i k : ℕ). i + k) (inside-early (q .first) (q .first + 2 ^ q .stars) n (omega arith)) (x .low n h) ∙ zero-add _;
+        high = λ n. ap₂ (λ (i k : ℕ). i + k) (moved l n) (x .high n);
+      }
+
+halves : (b : ℕ) (qs : List Prefix) → All (PrefixOf (suc b)) qs → All (λ (q : Prefix). q .stars ≤ b) qs → Halves b qs
+unfolding held
+halves b [] a s = record { left = []; right = []; lefts = tt; rights = tt; size = refl; low = λ n h. refl; high = λ n. refl }
+halves b (q ∷ qs) a s =
+    let x = halves b qs (a .1) (s .1) in
+    by (ltb (q .first) (2 ^ b)) (λ t. more-left b q (a .0) (s .0) qs x (ltb-true _ _ t)) (λ f. more-right b q (a .0) (s .0) qs x (ltb-false _ _ f))
+
+-- ---- a range that is not the whole field
+
+-- a prefix that is all stars covers every number of the field
+all-stars : (b : ℕ) (q : Prefix) → PrefixOf b q → b ≤ q .stars → (n : ℕ) → n < 2 ^ b → spans q n ≡ 1
+all-stars b q v s n h =
+    let e : q .stars ≡ b = omega (arith, v .fits) in
+    let f : q .first ≡ 0 = sym (mod-eq-of-lt (v .within)) ∙ ap (λ (x : ℕ). q .first % 2 ^ x) (sym e) ∙ v .clear in
+    inside-yes (q .first) (q .first + 2 ^ q .stars) n (omega arith) (omega (arith, h, ap (λ (x : ℕ). 2 ^ x) e))
+
+-- so a list that covers less has none
+module _ (b low end : ℕ) (w : Whole b low end → ⊥) (h : end ≤ 2 ^ b) where
+  fewer-stars : (q : Prefix) → PrefixOf b q → ((n : ℕ) → 0 < spans q n → (low ≤ n) × (n < end)) → q .stars < b
+  fewer-stars q v f =
+      by (ltb (q .stars) b) (λ t. ltb-true _ _ t)
+      (λ g.
+      let some : 0 < 2 ^ b = pow-pos b in
+      let s : b ≤ q .stars = ltb-false _ _ g in
+      let x = f 0 (omega (arith, all-stars b q v s 0 some)) in
+      let y = f (2 ^ b - 1) (omega (arith, all-stars b q v s (2 ^ b - 1) (omega arith))) in
+      absurd (w (omega (arith, x .0), omega (arith, y .1))))
+
+  all-fewer : (qs : List Prefix) → All (PrefixOf b) qs → ((n : ℕ) → 0 < held qs n → (low ≤ n) × (n < end)) → All (λ (q : Prefix). q .stars < b) qs
+  unfolding held
+  all-fewer [] a f = tt
+  all-fewer (q ∷ qs) a f = (fewer-stars q (a .0) (λ n p. f n (omega arith)), all-fewer qs (a .1) (λ n p. f n (omega arith)))
+
+covers-facts : (low end : ℕ) (qs : List Prefix) → Covers low end qs → (n : ℕ) → 0 < held qs n → (low ≤ n) × (n < end)
+covers-facts low end qs c n p = let e : min 1 (held qs n) ≡ inside low end n = c n in inside-facts low end n (omega arith)
+
+module _ (b low end : ℕ) (qs : List Prefix) (x : Halves b qs) (c : Covers low end qs) where
+  covers-left : Covers low (min end (2 ^ b)) (x .left)
+  covers-left n =
+      by (ltb n (2 ^ b))
+      (λ t. let s : n < 2 ^ b = ltb-true _ _ t in ap (λ (k : ℕ). min 1 k) (sym (x .low n s)) ∙ c n ∙ sym (inside-left low end (2 ^ b) n s))
+      (λ f. let s : 2 ^ b ≤ n = ltb-false _ _ f in ap (λ (k : ℕ). min 1 k) (held-past b n (x .left) (x .lefts) s) ∙ sym (inside-late low (min end (2 ^ b)) n (omega arith)))
+
+  covers-right : Covers (low - 2 ^ b) (end - 2 ^ b) (x .right)
+  covers-right n = ap (λ (k : ℕ). min 1 k) (sym (x .high n)) ∙ c (n + 2 ^ b) ∙ sym (inside-right low end (2 ^ b) n)
+
+fewest-parts : OfParts Fewest
+fewest-parts b low end left right w l h p q qs a c =
+    let x = halves b qs a (all-map _ _ (λ r s. omega arith) qs (all-fewer (suc b) low end w h qs a (covers-facts low end qs c))) in
+    omega (
+      arith,
+      parts-length (2 ^ b) left right,
+      x .size,
+      p (x .left) (x .lefts) (covers-left b low end qs x c),
+      q (x .right) (x .rights) (covers-right b low end qs x c),
+    )
+
+pub range-least : (b low end : ℕ) → end ≤ 2 ^ b → (qs : List Prefix) → All (PrefixOf b) qs → Covers low end qs → length (covering b low end) ≤ length qs
+range-least = every-range Fewest (λ b low end h qs a c. omega arith) fewest-whole fewest-parts

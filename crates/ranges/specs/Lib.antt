@@ -1,0 +1,4 @@
+pub mod Prefixes
+pub mod Ranges
+pub mod Calls
+pub mod Inner

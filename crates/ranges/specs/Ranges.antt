@@ -1,0 +1,30 @@
+-- The prefixes of a range of numbers: rising, and as few as there can be (request 01).
+use mathlib.Core.List.{List, [], _∷_, _++_, map}
+use mathlib.Core.Bool.{Bool, true, false, _&&_}
+use Prim.Native.Nat.{ℕ, zero, suc, _+_, _-_, _^_, min}
+use lib.Dec.{eqb, leb}
+use Rattle.ranges.specs.Prefixes.{Prefix, prefix}
+
+-- The prefix that covers, for each number of p, the number that is n greater.
+abbrev pub shifted : (n : ℕ) → Prefix → Prefix
+shifted n p = prefix (p .stars) (p .first + n)
+
+-- By two tests: no prefix, one prefix, or its parts.
+abbrev pub split : (none whole : Bool) → Prefix → (parts : List Prefix) → List Prefix
+split true w p ps = []
+split false true p ps = p ∷ []
+split false false p ps = ps
+
+-- The prefixes of the numbers from low on and below end, in a field of so many bits. Where there is no such number, none. Where they are
+-- the whole field, the one that is all stars. Else those of the left half of the field, whose numbers have no bit at weight 2^bits, and
+-- then those of the right half, whose numbers have it.
+unfoldable pub covering : (bits low end : ℕ) → List Prefix
+covering zero low end = split (leb end low) true (prefix 0 0) []
+covering (suc b) low end =
+    split (leb end low) (eqb low 0 && eqb end (2 ^ suc b)) (prefix (suc b) 0)
+    (covering b low (min end (2 ^ b)) ++ map (shifted (2 ^ b)) (covering b (low - 2 ^ b) (end - 2 ^ b)))
+
+-- The prefixes of the numbers from low to high. That they cover these and no other number, each once, that they rise, and that no other
+-- list of prefixes does it with fewer are the theorems `range-exactly`, `range-rises` and `range-fewest`.
+abbrev pub rangePrefixes : (bits low high : ℕ) → List Prefix
+rangePrefixes b low high = covering b low (high + 1)
