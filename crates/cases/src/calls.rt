@@ -3,6 +3,7 @@ use crate::compare_calls;
 use crate::given;
 use crate::image_calls;
 use crate::names;
+use crate::ranges_calls;
 use crate::rules_calls;
 use crate::show;
 use crate::slices;
@@ -31,6 +32,9 @@ pub fn answered(s: &[u8], w: &[u8], to: usize) -> usize {
         names::CHECK..=names::WEAVE_IMAGE => image_calls::on_image(call, s, end, w, to),
         names::COMPARE_LISTS..=names::COMPARE_FIRST_OUTCOMES => {
             compare_calls::on_images(call, s, end, w, to)
+        }
+        names::RANGE_PREFIXES..=names::RANGE_PREFIX_COUNT => {
+            ranges_calls::on_range(call, s, end, w, to)
         }
         _ => UNKNOWN,
     }

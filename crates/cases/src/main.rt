@@ -6,6 +6,7 @@ mod files;
 mod given;
 mod image_calls;
 mod names;
+mod ranges_calls;
 mod rules_calls;
 mod runs;
 mod show;

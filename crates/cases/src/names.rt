@@ -80,59 +80,69 @@ pub const COMPARE_LIST_OUTCOMES: usize = 36;
 
 pub const COMPARE_FIRST_OUTCOMES: usize = 37;
 
-pub const LIST: usize = 38;
+pub const RANGE_PREFIXES: usize = 38;
 
-pub const OLD: usize = 39;
+pub const RANGE_PREFIX_COUNT: usize = 39;
 
-pub const NEW: usize = 40;
+pub const LIST: usize = 40;
 
-pub const DEFAULT: usize = 41;
+pub const OLD: usize = 41;
 
-pub const INTO: usize = 42;
+pub const NEW: usize = 42;
 
-pub const HEADERS: usize = 43;
+pub const DEFAULT: usize = 43;
 
-pub const HEADER: usize = 44;
+pub const INTO: usize = 44;
 
-pub const AS: usize = 45;
+pub const HEADERS: usize = 45;
 
-pub const NUMBER: usize = 46;
+pub const HEADER: usize = 46;
 
-pub const RULE: usize = 47;
+pub const AS: usize = 47;
 
-pub const RULES: usize = 48;
+pub const NUMBER: usize = 48;
 
-pub const PLACE: usize = 49;
+pub const RULE: usize = 49;
 
-pub const SWAP: usize = 50;
+pub const RULES: usize = 50;
 
-pub const START: usize = 51;
+pub const PLACE: usize = 51;
 
-pub const IMAGE: usize = 52;
+pub const SWAP: usize = 52;
 
-pub const ID: usize = 53;
+pub const START: usize = 53;
 
-pub const IDS: usize = 54;
+pub const IMAGE: usize = 54;
 
-pub const COUNTS: usize = 55;
+pub const ID: usize = 55;
 
-pub const CARE: usize = 56;
+pub const IDS: usize = 56;
 
-pub const VALUE: usize = 57;
+pub const COUNTS: usize = 57;
 
-pub const DECISION: usize = 58;
+pub const CARE: usize = 58;
 
-pub const FIRST: usize = 59;
+pub const VALUE: usize = 59;
 
-pub const LAST: usize = 60;
+pub const DECISION: usize = 60;
 
-pub const TIMES: usize = 61;
+pub const FIRST: usize = 61;
 
-pub const TO: usize = 62;
+pub const LAST: usize = 62;
 
-pub const NONE: usize = 63;
+pub const TIMES: usize = 63;
 
-pub const HALF: usize = 64;
+pub const TO: usize = 64;
+
+pub const NONE: usize = 65;
+
+pub const HALF: usize = 66;
+
+pub const BITS: usize = 67;
+
+pub const LOW: usize = 68;
+
+pub const HIGH: usize = 69;
 
 // The number of a word among all words; one that is none of them has the number 99. Most words of a case are numbers, which start with
 // no letter.
@@ -142,7 +152,7 @@ fn place_of(word: &[u8], all: &[u8]) -> usize {
     }
     let mut at = 0;
     let mut k = 0;
-    while k < 65 {
+    while k < 70 {
         let from = word_start(all, at);
         at = word_end(all, from);
         if check::same(part(all, from, at), word) {
@@ -157,6 +167,6 @@ fn place_of(word: &[u8], all: &[u8]) -> usize {
 pub fn number_of(word: &[u8]) -> usize {
     place_of(
         word,
-        b"check_list check_list_as lookup lookup_number lookup_swapped prefix_swap runs weave write compare compare_outcomes rule_at put_rule check_rule covers crosses distance rule_covers rule_crosses apply_rule apply undo invert compose check width format count entry body body_refusal tally read weave_image compare_lists compare_first compare_list_outcomes compare_first_outcomes list old new default into headers header as number rule rules place swap start image id ids counts care value decision first last times to none half",
+        b"check_list check_list_as lookup lookup_number lookup_swapped prefix_swap runs weave write compare compare_outcomes rule_at put_rule check_rule covers crosses distance rule_covers rule_crosses apply_rule apply undo invert compose check width format count entry body body_refusal tally read weave_image compare_lists compare_first compare_list_outcomes compare_first_outcomes range_prefixes range_prefix_count list old new default into headers header as number rule rules place swap start image id ids counts care value decision first last times to none half bits low high",
     )
 }

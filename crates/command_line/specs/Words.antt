@@ -6,7 +6,7 @@ use lib.Dec.{eqb, leb}
 use Rattle.command_line.specs.declared.Command.{Command}
 use Rattle.command_line.specs.declared.Wanted.{Wanted}
 
--- The names, byte by byte: check, show, lookup, runs, weave, compare, and defaults.
+-- The names, byte by byte: check, show, lookup, runs, weave, compare, prefixes, and defaults.
 abbrev pub checkName : List ℕ
 checkName = 99 ∷ 104 ∷ 101 ∷ 99 ∷ 107 ∷ []
 
@@ -24,6 +24,9 @@ weaveName = 119 ∷ 101 ∷ 97 ∷ 118 ∷ 101 ∷ []
 
 abbrev pub compareName : List ℕ
 compareName = 99 ∷ 111 ∷ 109 ∷ 112 ∷ 97 ∷ 114 ∷ 101 ∷ []
+
+abbrev pub prefixesName : List ℕ
+prefixesName = 112 ∷ 114 ∷ 101 ∷ 102 ∷ 105 ∷ 120 ∷ 101 ∷ 115 ∷ []
 
 abbrev pub defaultsName : List ℕ
 defaultsName = 100 ∷ 101 ∷ 102 ∷ 97 ∷ 117 ∷ 108 ∷ 116 ∷ 115 ∷ []
@@ -43,9 +46,9 @@ commandIf false a b = b
 unfoldable pub asks : (word : List ℕ) (words : ℕ) (name : List ℕ) (wanted : ℕ) → Bool
 asks word words name wanted = eqb words wanted && sameBytes word name
 
--- The command that a command line without defaults asks for: the usage where it is no other.
-unfoldable pub commandOf : (word : List ℕ) (words : ℕ) → Command
-commandOf word words =
+-- The command on image files that a command line without defaults asks for: the usage where it is no other.
+unfoldable pub fileCommandOf : (word : List ℕ) (words : ℕ) → Command
+fileCommandOf word words =
     commandIf (asks word words checkName 3) Command.Check
     (commandIf (asks word words showName 3) Command.Show
     (commandIf (asks word words lookupName 5) Command.Lookup
@@ -54,6 +57,10 @@ commandOf word words =
     (commandIf (asks word words compareName 4) Command.Compare
     (commandIf (asks word words compareName 5) Command.CompareId
     (commandIf (asks word words compareName 6) Command.CompareFrom Command.Usage)))))))
+
+-- The same with the command that takes no file.
+unfoldable pub commandOf : (word : List ℕ) (words : ℕ) → Command
+commandOf word words = commandIf (asks word words prefixesName 5) Command.Prefixes (fileCommandOf word words)
 
 -- Whether a comparison ends in its defaults: the last word but two is their name, and at least the two files' names stand before it.
 unfoldable pub namesDefaults : (word lastButTwo : List ℕ) (words : ℕ) → Bool

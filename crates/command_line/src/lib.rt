@@ -1,6 +1,6 @@
 // Which command the words of the tool's command line ask for.
 ghost use mathlib.Core.Path.{_≡_};
-ghost use Rattle.command_line.specs.Words.{asks, commandOf, namesDefaults, wantedOf};
+ghost use Rattle.command_line.specs.Words.{asks, fileCommandOf, commandOf, namesDefaults, wantedOf};
 
 // What a command line can ask for.
 pub enum Command {
@@ -12,6 +12,7 @@ pub enum Command {
     Compare,
     CompareId,
     CompareFrom,
+    Prefixes,
     Usage,
 }
 
@@ -33,9 +34,10 @@ fn is(word: &[u8], words: usize, name: &[u8], wanted: usize) -> bool
     false
 }
 
-// The command that a command line without defaults asks for: its first word, and how many words there are with the tool's own name.
-fn command_of(word: &[u8], words: usize) -> Command
-    ensures { λ r. ⌜ r ≡ commandOf (now (word .entry)) words ⌝ }
+// The command on image files that a command line without defaults asks for: its first word, and how many words there are with the tool's
+// own name.
+fn file_command_of(word: &[u8], words: usize) -> Command
+    ensures { λ r. ⌜ r ≡ fileCommandOf (now (word .entry)) words ⌝ }
 {
     if is(word, words, b"check", 3) {
         return Command::Check;
@@ -62,6 +64,16 @@ fn command_of(word: &[u8], words: usize) -> Command
         return Command::CompareFrom;
     }
     Command::Usage
+}
+
+// The same with the command that takes no file.
+fn command_of(word: &[u8], words: usize) -> Command
+    ensures { λ r. ⌜ r ≡ commandOf (now (word .entry)) words ⌝ }
+{
+    if is(word, words, b"prefixes", 5) {
+        return Command::Prefixes;
+    }
+    file_command_of(word, words)
 }
 
 // Whether a comparison ends in its defaults: the last word but two is their name. There are words for two files before it, so none of

@@ -1,5 +1,6 @@
 // What a command line asks for is done. A command line stands among the program's arguments: its name at a place, which is 0 for the
 // program's own, and its words after that. Words that have to be numbers are looked at before any file.
+use crate::fields;
 use crate::images;
 use crate::lines;
 use crate::numbers;
@@ -39,6 +40,7 @@ pub(crate) fn run(at: usize, words: usize) {
         Command::Runs => with_numbers(at, wanted, 3, 0),
         Command::CompareId => with_numbers(at, wanted, 4, 0),
         Command::CompareFrom => with_numbers(at, wanted, 4, 5),
+        Command::Prefixes => fields::prefixes(at),
         Command::Usage => lines::usage(),
         _ => with_numbers(at, wanted, 0, 0),
     }

@@ -1,6 +1,7 @@
 // The lines that the tool writes.
 use crate::slices;
 use rules::Refusal;
+use rules::Rule;
 use words::Word;
 
 pub(crate) fn say(s: &[u8]) {
@@ -21,6 +22,13 @@ fn word(n: Word) {
     let mut digits = [0u8; 39];
     let count = text::write_number(n, &mut digits);
     say(slices::bytes(&digits, count));
+}
+
+// The pattern of a rule, as it is written.
+pub(crate) fn pattern(width: u32, rule: Rule) {
+    let mut space = [0u8; 128];
+    let count = text::write_pattern(width, rule, &mut space);
+    say(slices::bytes(&space, count));
 }
 
 // A number, to the end of the line.
@@ -86,6 +94,6 @@ pub(crate) fn trouble(what: &[u8], word: &[u8]) {
 
 pub(crate) fn usage() {
     say(
-        b"usage:\n  ./myrhjord check FILE\n  ./myrhjord show FILE\n  ./myrhjord lookup FILE ID HEADER\n  ./myrhjord runs FILE ID\n  ./myrhjord weave FILE OUT\n  ./myrhjord compare OLD NEW [ID [START]] [defaults A B]\nNumbers are decimal, or hexadecimal after 0x.\nA and B are what the old and the new list decide where no rule matches: a number, or none.\n",
+        b"usage:\n  ./myrhjord check FILE\n  ./myrhjord show FILE\n  ./myrhjord lookup FILE ID HEADER\n  ./myrhjord runs FILE ID\n  ./myrhjord weave FILE OUT\n  ./myrhjord compare OLD NEW [ID [START]] [defaults A B]\n  ./myrhjord prefixes BITS LOW HIGH\nNumbers are decimal, or hexadecimal after 0x.\nA and B are what the old and the new list decide where no rule matches: a number, or none.\n",
     );
 }

@@ -2,6 +2,7 @@
 // standard output, in plain words.
 mod commands;
 mod comparing;
+mod fields;
 mod files;
 mod images;
 mod lines;

@@ -57,9 +57,7 @@ fn show_rules(width: u32, care: &[u64], value: &[u64], decision: &[u16]) {
 }
 
 fn show_rule(width: u32, rule: Rule) {
-    let mut pattern = [0u8; 128];
-    let n = text::write_pattern(width, rule, &mut pattern);
-    lines::say(slices::bytes(&pattern, n));
+    lines::pattern(width, rule);
     lines::byte(b' ');
     lines::last(rule.decision as usize);
 }
