@@ -1,6 +1,7 @@
--- No list of prefixes of the field, overlapping or not, that covers exactly a range has fewer than the range's own.
-use mathlib.Core.Path.{_≡_, refl, sym, ap, ap₂, _∙_}
-use mathlib.Core.List.{List, [], _∷_}
+-- No list of prefixes of the field, overlapping or not, that covers exactly a range has fewer than the range's own, and no other list that
+-- rises has as few.
+use mathlib.Core.Path.{_≡_, refl, sym, ap, ap₂, _∙_, subst}
+use mathlib.Core.List.{List, [], _∷_, _++_, map}
 use Prim.Native.Nat.{ℕ, suc, _+_, _-_, _%_, _^_, _≤_, _<_, min}
 use native.Mathlib.Omega.{arith}
 use native.Mathlib.Nat.{pow-suc, mod-eq-of-lt, zero-add}
@@ -9,12 +10,14 @@ use lib.Pow.{pow-pos}
 use lib.ListN.{length}
 use borrow.Author.Tests.{ltb-true, ltb-false}
 use Rattle.words.proofs.Tests.{split as by}
-use Rattle.rules.specs.Lists.{All}
+use Rattle.rules.specs.Lists.{All, Pairs}
 use Rattle.rules.proofs.EntryLaws.{all-map}
-use Rattle.ranges.specs.Prefixes.{Prefix, prefix, PrefixOf}
-use Rattle.ranges.specs.Ranges.{covering}
+use Rattle.ranges.specs.Prefixes.{Prefix, prefix, PrefixOf, Before}
+use Rattle.ranges.specs.Ranges.{shifted, covering}
 use Rattle.ranges.proofs.PrefixLaws.{inside, inside-yes, inside-early, inside-late, inside-facts, inside-left, inside-right, inside-up, spans, held, held-past, prefix-end, clear-before}
-use Rattle.ranges.proofs.CoverLaws.{Whole, parts-length, Fact, OfWhole, OfParts, every-range}
+use Rattle.ranges.proofs.StepLaws.{exponent}
+use Rattle.ranges.proofs.RangeLaws.{pairs-front, pairs-back, pairs-still}
+use Rattle.ranges.proofs.CoverLaws.{Whole, parts-length, Fact, None, OfWhole, OfParts, every-range}
 
 -- A list covers exactly the numbers from low on and below the end, each once or more often.
 abbrev pub Covers : (low end : ℕ) → List Prefix → Type 0
@@ -40,6 +43,8 @@ record Halves (b : ℕ) (qs : List Prefix) : Type 0 where
   size : length left + length right ≡ length qs
   low : (n : ℕ) → n < 2 ^ b → held qs n ≡ held left n
   high : (n : ℕ) → held qs (n + 2 ^ b) ≡ held right n
+  none : All (λ (q : Prefix). 2 ^ b ≤ q .first) qs → left ≡ []
+  joined : Pairs Before qs → qs ≡ left ++ map (shifted (2 ^ b)) right
 
 abbrev lowered : (n : ℕ) → Prefix → Prefix
 lowered n p = prefix (p .stars) (p .first - n)
@@ -61,6 +66,8 @@ module _ (b : ℕ) (q : Prefix) (v : PrefixOf (suc b) q) (s : q .stars ≤ b) (q
         size = omega (arith, x .size);
         low = λ n h. ap (λ (k : ℕ). spans q n + k) (x .low n h);
         high = λ n. ap₂ (λ (i k : ℕ). i + k) (inside-late (q .first) (q .first + 2 ^ q .stars) (n + 2 ^ b) (omega arith)) (x .high n) ∙ zero-add _;
+        none = λ a. absurd (omega (arith, l, a .0));
+        joined = λ p. ap (λ (rs : List Prefix). q ∷ rs) (x .joined (p .1));
       }
 
   -- or of the right half
@@ -77,6 +84,14 @@ module _ (b : ℕ) (q : Prefix) (v : PrefixOf (suc b) q) (s : q .stars ≤ b) (q
       ∙ inside-up (q .first - 2 ^ b) (q .first - 2 ^ b + 2 ^ q .stars) (2 ^ b) (n + 2 ^ b) (omega arith)
       ∙ ap (λ (i : ℕ). inside (q .first - 2 ^ b) (q .first - 2 ^ b + 2 ^ q .stars) i) z
 
+  -- after it there is none of the left half, where the list rises
+  joined-right : 2 ^ b ≤ q .first → Pairs Before (q ∷ qs) → q ∷ qs ≡ x .left ++ map (shifted (2 ^ b)) (lowered (2 ^ b) q ∷ x .right)
+  joined-right l p =
+      let z : x .left ≡ [] = x .none (all-map (Before q) (λ (r : Prefix). 2 ^ b ≤ r .first) (λ r h. omega arith) qs (p .0)) in
+      let f : q .first ≡ q .first - 2 ^ b + 2 ^ b = omega arith in
+      ap₂ (λ (i : ℕ) (rs : List Prefix). prefix (q .stars) i ∷ rs) f (x .joined (p .1) ∙ ap (λ (rs : List Prefix). rs ++ map (shifted (2 ^ b)) (x .right)) z)
+      ∙ ap (λ (rs : List Prefix). rs ++ map (shifted (2 ^ b)) (lowered (2 ^ b) q ∷ x .right)) (sym z)
+
   more-right : 2 ^ b ≤ q .first → Halves b (q ∷ qs)
   unfolding held
   more-right l =
@@ -88,11 +103,13 @@ module _ (b : ℕ) (q : Prefix) (v : PrefixOf (suc b) q) (s : q .stars ≤ b) (q
         size = omega (arith, x .size);
         low = λ n h. ap₂ (λ (i k : ℕ). i + k) (inside-early (q .first) (q .first + 2 ^ q .stars) n (omega arith)) (x .low n h) ∙ zero-add _;
         high = λ n. ap₂ (λ (i k : ℕ). i + k) (moved l n) (x .high n);
+        none = λ a. x .none (a .1);
+        joined = joined-right l;
       }
 
 halves : (b : ℕ) (qs : List Prefix) → All (PrefixOf (suc b)) qs → All (λ (q : Prefix). q .stars ≤ b) qs → Halves b qs
 unfolding held
-halves b [] a s = record { left = []; right = []; lefts = tt; rights = tt; size = refl; low = λ n h. refl; high = λ n. refl }
+halves b [] a s = record { left = []; right = []; lefts = tt; rights = tt; size = refl; low = λ n h. refl; high = λ n. refl; none = λ a. refl; joined = λ p. refl }
 halves b (q ∷ qs) a s =
     let x = halves b qs (a .1) (s .1) in
     by (ltb (q .first) (2 ^ b)) (λ t. more-left b q (a .0) (s .0) qs x (ltb-true _ _ t)) (λ f. more-right b q (a .0) (s .0) qs x (ltb-false _ _ f))
@@ -136,9 +153,12 @@ module _ (b low end : ℕ) (qs : List Prefix) (x : Halves b qs) (c : Covers low 
   covers-right : Covers (low - 2 ^ b) (end - 2 ^ b) (x .right)
   covers-right n = ap (λ (k : ℕ). min 1 k) (sym (x .high n)) ∙ c (n + 2 ^ b) ∙ sym (inside-right low end (2 ^ b) n)
 
+abbrev taken-apart : (b low end : ℕ) (qs : List Prefix) → (Whole (suc b) low end → ⊥) → end ≤ 2 ^ suc b → All (PrefixOf (suc b)) qs → Covers low end qs → Halves b qs
+taken-apart b low end qs w h a c = halves b qs a (all-map _ _ (λ r s. omega arith) qs (all-fewer (suc b) low end w h qs a (covers-facts low end qs c)))
+
 fewest-parts : OfParts Fewest
 fewest-parts b low end left right w l h p q qs a c =
-    let x = halves b qs a (all-map _ _ (λ r s. omega arith) qs (all-fewer (suc b) low end w h qs a (covers-facts low end qs c))) in
+    let x = taken-apart b low end qs w h a c in
     omega (
       arith,
       parts-length (2 ^ b) left right,
@@ -147,5 +167,67 @@ fewest-parts b low end left right w l h p q qs a c =
       q (x .right) (x .rights) (covers-right b low end qs x c),
     )
 
+-- ---- no other list
+
+-- A list that covers the range, rises and has no more prefixes is the same list.
+abbrev Only : Fact
+Only b low end ps = (qs : List Prefix) → All (PrefixOf b) qs → Covers low end qs → Pairs Before qs → length qs ≤ length ps → qs ≡ ps
+
+only-none : None Only
+only-none b low end h [] a c r s = refl
+only-none b low end h (q ∷ qs) a c r s = absurd (omega arith)
+
+-- a prefix that covers a range by itself covers each of its numbers
+not-none : (x y : ℕ) → min 1 (x + 0) ≡ y → y ≡ 1 → 0 < x
+not-none x y e f = omega arith
+
+by-itself : (low end : ℕ) (q : Prefix) → Covers low end (q ∷ []) → (n : ℕ) → low ≤ n → n < end → (q .first ≤ n) × (n < q .first + 2 ^ q .stars)
+unfolding held
+by-itself low end q c n l h =
+    inside-facts (q .first) (q .first + 2 ^ q .stars) n (not-none (spans q n) (inside low end n) (c n) (inside-yes low end n l h))
+
+-- so one that covers the whole field is all stars
+only-star : (b : ℕ) (q : Prefix) → PrefixOf b q → Covers 0 (2 ^ b) (q ∷ []) → q ≡ prefix b 0
+only-star b q v c =
+    let some : 0 < 2 ^ b = pow-pos b in
+    let z : q .first ≡ 0 = omega (arith, by-itself 0 (2 ^ b) q c 0 (omega arith) some .0) in
+    let l : 2 ^ b ≤ 2 ^ q .stars = omega (arith, z, by-itself 0 (2 ^ b) q c (2 ^ b - 1) (omega arith) (omega arith) .1) in
+    let e : q .stars ≡ b = omega (arith, v .fits, exponent b (q .stars) l) in
+    ap₂ prefix e z
+
+only-whole : OfWhole Only
+unfolding held
+only-whole b [] a c r s = absurd (omega (arith, c 0, inside-yes 0 (2 ^ b) 0 (omega arith) (pow-pos b)))
+only-whole b (q ∷ []) a c r s = ap (λ (p : Prefix). p ∷ []) (only-star b q (a .0) c)
+only-whole b (q ∷ p ∷ qs) a c r s = absurd (omega arith)
+
+-- both facts together: what has no fewer and no more in both halves has as many in each
+abbrev Best : Fact
+Best b low end ps = Fewest b low end ps × Only b low end ps
+
+only-parts : OfParts Best
+only-parts b low end left right w l h p q = (fewest-parts b low end left right w l h (p .0) (q .0), only)
+  where
+    only : Only (suc b) low end (left ++ map (shifted (2 ^ b)) right)
+    only qs a c r s =
+        let x = taken-apart b low end qs w h a c in
+        let cl = covers-left b low end qs x c in
+        let cr = covers-right b low end qs x c in
+        let j : qs ≡ x .left ++ map (shifted (2 ^ b)) (x .right) = x .joined r in
+        let rj = subst (Pairs Before) j r in
+        let fl : length left ≤ length (x .left) = p .0 (x .left) (x .lefts) cl in
+        let fr : length right ≤ length (x .right) = q .0 (x .right) (x .rights) cr in
+        let total : length (x .left) + length (x .right) ≤ length left + length right = omega (arith, s, x .size, parts-length (2 ^ b) left right) in
+        let el : x .left ≡ left = p .1 (x .left) (x .lefts) cl (pairs-front (x .left) _ rj) (omega (arith, fl, fr, total)) in
+        let er : x .right ≡ right = q .1 (x .right) (x .rights) cr (pairs-still (2 ^ b) (x .right) (pairs-back (x .left) _ rj)) (omega (arith, fl, fr, total)) in
+        j ∙ ap₂ (λ (xs ys : List Prefix). xs ++ map (shifted (2 ^ b)) ys) el er
+
+best : (b low end : ℕ) → end ≤ 2 ^ b → Best b low end (covering b low end)
+best = every-range Best (λ b low end h. ((λ qs a c. omega arith), only-none b low end h)) (λ b. (fewest-whole b, only-whole b)) only-parts
+
 pub range-least : (b low end : ℕ) → end ≤ 2 ^ b → (qs : List Prefix) → All (PrefixOf b) qs → Covers low end qs → length (covering b low end) ≤ length qs
-range-least = every-range Fewest (λ b low end h qs a c. omega arith) fewest-whole fewest-parts
+range-least b low end h = best b low end h .0
+
+pub range-alone : (b low end : ℕ) → end ≤ 2 ^ b → (qs : List Prefix) → All (PrefixOf b) qs → Covers low end qs → Pairs Before qs
+    → length qs ≤ length (covering b low end) → qs ≡ covering b low end
+range-alone b low end h = best b low end h .1

@@ -94,6 +94,28 @@ pairs-append m [] ys a b p q = q
 pairs-append m (x ∷ xs) ys a b p q =
     (all-append (Before x) xs ys (p .0) (all-map (λ (y : Prefix). m ≤ y .first) (Before x) (λ y h. omega (arith, a .0)) ys b), pairs-append m xs ys (a .1) b (p .1) q)
 
+-- of a list of two parts that rises, each part rises
+all-front : (P : Prefix → Type 0) (xs ys : List Prefix) → All P (xs ++ ys) → All P xs
+all-front P [] ys a = tt
+all-front P (x ∷ xs) ys a = (a .0, all-front P xs ys (a .1))
+
+pub pairs-front : (xs ys : List Prefix) → Pairs Before (xs ++ ys) → Pairs Before xs
+pairs-front [] ys a = tt
+pairs-front (x ∷ xs) ys a = (all-front (Before x) xs ys (a .0), pairs-front xs ys (a .1))
+
+pub pairs-back : (xs ys : List Prefix) → Pairs Before (xs ++ ys) → Pairs Before ys
+pairs-back [] ys a = a
+pairs-back (x ∷ xs) ys a = pairs-back xs ys (a .1)
+
+-- and so does a list before it was moved up
+all-still : (P Q : Prefix → Type 0) (m : ℕ) → ((p : Prefix) → Q (shifted m p) → P p) → (ps : List Prefix) → All Q (map (shifted m) ps) → All P ps
+all-still P Q m f [] a = tt
+all-still P Q m f (p ∷ ps) a = (f p (a .0), all-still P Q m f ps (a .1))
+
+pub pairs-still : (m : ℕ) (ps : List Prefix) → Pairs Before (map (shifted m) ps) → Pairs Before ps
+pairs-still m [] a = tt
+pairs-still m (p ∷ ps) a = (all-still (Before p) (Before (shifted m p)) m (λ q h. omega arith) ps (a .0), pairs-still m ps (a .1))
+
 rising-whole : OfWhole Rising
 rising-whole b = ((tt, tt), ((omega arith, omega arith), tt))
 

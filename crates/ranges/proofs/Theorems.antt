@@ -1,28 +1,30 @@
 -- The theorems of ranges, in the words of the definitions: what the prefixes of a range cover, in which order, and that they are the fewest.
 use mathlib.Core.Path.{_≡_, refl, sym, ap, _∙_}
-use mathlib.Core.List.{List, [], _∷_}
+use mathlib.Core.List.{List, [], _∷_, map}
 use mathlib.Core.Bool.{Bool, true, false, _&&_}
 use Prim.Native.Nat.{ℕ, zero, suc, _+_, _-_, _*_, _^_, _≤_, _<_, min, max}
 use native.Mathlib.Omega.{arith}
 use native.Mathlib.Nat.{pow-suc}
 use lib.Pow.{pow-pos}
 use lib.Dec.{eqb, leb, ltb}
-use lib.ListN.{length}
+use lib.ListN.{length, length-map, take, drop}
+use lib.Seq.{take-at, drop-at}
 use borrow.Author.Tests.{leb-true, ltb-true, ltb-false, le-leb, lt-ltb}
 use Rattle.words.proofs.Tests.{split as by, same-test}
 use Rattle.rules.specs.Rules.{rule, choose, matches as ruleMatches}
 use Rattle.rules.specs.Lists.{All, Pairs}
-use Rattle.rules.specs.Replies.{Reply, Gives, Refuses, passed, need, _then_}
+use Rattle.rules.specs.Replies.{Reply, Gives, Refuses, passed, need, _then_, unlessRefused}
 use Rattle.rules.specs.Checks.{roomCheck}
-use Rattle.rules.proofs.ReplyLaws.{gives-refuses, then-next}
+use Rattle.rules.proofs.ReplyLaws.{gives-refuses, then-next, then-second, one-value}
 use Rattle.rules.proofs.CheckLaws.{room-yes}
+use Rattle.ranges.specs.declared.Covered.{Covered}
 use Rattle.ranges.specs.Prefixes.{Prefix, PrefixOf, careWord, valueWord, matches, matching, inRange, CoversExactly, Before}
 use Rattle.ranges.specs.Ranges.{covering, rangePrefixes}
-use Rattle.ranges.specs.Calls.{widestField, fieldCheck, rangeCheck, checkRange, resultsCheck, prefixesCheck, prefixesReply}
+use Rattle.ranges.specs.Calls.{widestField, fieldCheck, rangeCheck, checkRange, resultsCheck, prefixesCheck, prefixesReply, wordsPut, PrefixesDone}
 use Rattle.ranges.proofs.PrefixLaws.{inside, inside-choose, inside-exactly, inside-late, held-past, matching-held, held}
 use Rattle.ranges.proofs.RangeLaws.{range-fits, range-once, range-rising}
 use Rattle.ranges.proofs.FewLaws.{range-few, all-but-both}
-use Rattle.ranges.proofs.FewestLaws.{Covers, range-least}
+use Rattle.ranges.proofs.FewestLaws.{Covers, range-least, range-alone}
 use Rattle.ranges.proofs.CallLaws.{bare-range, ranged, check-prefixes}
 
 -- A number matches a prefix exactly where, as a header, it matches a rule with the prefix's two words.
@@ -85,6 +87,11 @@ module _ (b low high : ℕ) (h : high < 2 ^ b) where
   pub range-fewest : (ps : List Prefix) → All (PrefixOf b) ps → CoversExactly b low high ps → length (rangePrefixes b low high) ≤ length ps
   range-fewest ps a c = range-least b low (high + 1) ends ps a (covers-all b low (high + 1) ps ends a (λ n l. c n l ∙ in-range low high n))
 
+  -- And no other list does it that rises and has no more: what was asked for has one answer.
+  pub range-only : (ps : List Prefix) → All (PrefixOf b) ps → CoversExactly b low high ps → Pairs Before ps → length ps ≤ length (rangePrefixes b low high)
+      → ps ≡ rangePrefixes b low high
+  range-only ps a c r s = range-alone b low (high + 1) ends ps a (covers-all b low (high + 1) ps ends a (λ n l. c n l ∙ in-range low high n)) r s
+
   -- There are never more than 2 * bits - 2 of them, and in a field of one bit never more than one.
   pub range-at-most : length (rangePrefixes b low high) ≤ max 1 (b * 2 - 2)
   range-at-most = range-few b low (high + 1) ends
@@ -139,3 +146,36 @@ never-seven b low high cs vs room = nor-next (prefixesCheck b low high cs vs) _ 
         let p = ranged b low high (bare-range b low high (g .0) (g .1)) .within in
         nor-next (resultsCheck cs vs) _ (other-number (eqb (length cs) (length vs)) 2 0 0 (λ e. omega arith))
         (λ s. room-not-seven _ _ (omega (arith, room, range-at-most b low high p))))
+
+-- ---- what an answered call leaves
+
+-- The first places of both slices have the words of the prefixes, as many as the call says, and the later places what they had.
+pub record Written (b low high : ℕ) (cs vs cs′ vs′ : List ℕ) (n : ℕ) : Type 0 where
+  pub count : n ≡ length (rangePrefixes b low high)
+  pub cares : take n cs′ ≡ map (careWord b) (rangePrefixes b low high)
+  pub values : take n vs′ ≡ map valueWord (rangePrefixes b low high)
+  pub cares-after : drop n cs′ ≡ drop n cs
+  pub values-after : drop n vs′ ≡ drop n vs
+
+put-front : (f : Prefix → ℕ) (ps : List Prefix) (old : List ℕ) (n : ℕ) → n ≡ length ps → take n (wordsPut f ps old) ≡ map f ps
+unfolding wordsPut
+put-front f ps old n e = take-at (map f ps) (drop (length ps) old) n (length-map ps f ∙ sym e)
+
+put-back : (f : Prefix → ℕ) (ps : List Prefix) (old : List ℕ) (n : ℕ) → n ≡ length ps → drop n (wordsPut f ps old) ≡ drop n old
+unfolding wordsPut
+put-back f ps old n e = drop-at (map f ps) (drop (length ps) old) n (length-map ps f ∙ sym e) ∙ ap (λ (k : ℕ). drop k old) (sym e)
+
+pub prefixes-written : (b low high : ℕ) (cs vs cs′ vs′ : List ℕ) (n : ℕ) → PrefixesDone b low high cs vs cs′ vs′ (Covered.Prefixes n) → Written b low high cs vs cs′ vs′ n
+unfolding prefixesReply
+prefixes-written b low high cs vs cs′ vs′ n d =
+    let said : prefixesReply b low high cs vs ≡ Gives (n ∷ []) = sym (d .reply) in
+    let e : n ≡ length (rangePrefixes b low high) = sym (one-value (then-second (prefixesCheck b low high cs vs) _ (n ∷ []) said)) in
+    let c : cs′ ≡ wordsPut (careWord b) (rangePrefixes b low high) cs = d .cares ∙ ap (λ (r : Reply). unlessRefused r (wordsPut (careWord b) (rangePrefixes b low high) cs) cs) said in
+    let v : vs′ ≡ wordsPut valueWord (rangePrefixes b low high) vs = d .values ∙ ap (λ (r : Reply). unlessRefused r (wordsPut valueWord (rangePrefixes b low high) vs) vs) said in
+    record {
+      count = e;
+      cares = ap (take n) c ∙ put-front (careWord b) (rangePrefixes b low high) cs n e;
+      values = ap (take n) v ∙ put-front valueWord (rangePrefixes b low high) vs n e;
+      cares-after = ap (drop n) c ∙ put-back (careWord b) (rangePrefixes b low high) cs n e;
+      values-after = ap (drop n) v ∙ put-back valueWord (rangePrefixes b low high) vs n e;
+    }

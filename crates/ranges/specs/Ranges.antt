@@ -24,7 +24,8 @@ covering (suc b) low end =
     split (leb end low) (eqb low 0 && eqb end (2 ^ suc b)) (prefix (suc b) 0)
     (covering b low (min end (2 ^ b)) ++ map (shifted (2 ^ b)) (covering b (low - 2 ^ b) (end - 2 ^ b)))
 
--- The prefixes of the numbers from low to high. That they cover these and no other number, each once, that they rise, and that no other
--- list of prefixes does it with fewer are the theorems `range-exactly`, `range-rises` and `range-fewest`.
+-- The prefixes of the numbers from low to high. That they cover these and no other number, each once, that they rise, that no list of
+-- prefixes does it with fewer, and no other one that rises with as few, are the theorems `range-exactly`, `range-rises`, `range-fewest`
+-- and `range-only`.
 abbrev pub rangePrefixes : (bits low high : ℕ) → List Prefix
 rangePrefixes b low high = covering b low (high + 1)
