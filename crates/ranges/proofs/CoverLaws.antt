@@ -15,11 +15,11 @@ use Rattle.ranges.specs.Prefixes.{Prefix, prefix}
 use Rattle.ranges.specs.Ranges.{shifted, split, covering}
 
 -- A range is all of the field.
-abbrev pub Whole : (bits low end : ℕ) → Type 0
-Whole b low end = (low ≡ 0) × (end ≡ 2 ^ b)
+abbrev pub WholeField : (bits low end : ℕ) → Type 0
+WholeField b low end = (low ≡ 0) × (end ≡ 2 ^ b)
 
 -- Either it is, or it is not.
-pub by-whole : {C : Type 0} (b low end : ℕ) → (Whole b low end → C) → ((Whole b low end → ⊥) → C) → C
+pub by-whole : {C : Type 0} (b low end : ℕ) → (WholeField b low end → C) → ((WholeField b low end → ⊥) → C) → C
 by-whole b low end f g =
     by (eqb low 0 && eqb end (2 ^ b))
     (λ t. let w = and-true (eqb low 0) (eqb end (2 ^ b)) t in f (eqb-yes _ _ (w .0), eqb-yes _ _ (w .1)))
@@ -51,7 +51,7 @@ cover-whole (suc b) =
     (true-and (yes-eqb 0 0 refl) (yes-eqb (2 ^ suc b) (2 ^ suc b) refl))
 
 -- else the two halves
-pub cover-parts : (b low end : ℕ) → (Whole (suc b) low end → ⊥) → covering (suc b) low end ≡ parts b low end
+pub cover-parts : (b low end : ℕ) → (WholeField (suc b) low end → ⊥) → covering (suc b) low end ≡ parts b low end
 unfolding covering
 cover-parts b low end h = by (leb end low) none some
   where
@@ -82,18 +82,18 @@ OfWhole P = (b : ℕ) → P b 0 (2 ^ b) (prefix b 0 ∷ [])
 
 -- and of a range whose halves it holds of
 abbrev pub OfParts : Fact → Type 0
-OfParts P = (b low end : ℕ) (left right : List Prefix) → (Whole (suc b) low end → ⊥) → low < end → end ≤ 2 ^ suc b
+OfParts P = (b low end : ℕ) (left right : List Prefix) → (WholeField (suc b) low end → ⊥) → low < end → end ≤ 2 ^ suc b
     → P b low (min end (2 ^ b)) left → P b (low - 2 ^ b) (end - 2 ^ b) right → P (suc b) low end (left ++ map (shifted (2 ^ b)) right)
 
 module _ (P : Fact) (none : None P) (whole : OfWhole P) (both : OfParts P) where
   of-none : (b low end : ℕ) → end ≤ low → P b low end (covering b low end)
   of-none b low end h = subst (P b low end) (sym (cover-none b low end h)) (none b low end h)
 
-  of-whole : (b low end : ℕ) → Whole b low end → P b low end (covering b low end)
+  of-whole : (b low end : ℕ) → WholeField b low end → P b low end (covering b low end)
   of-whole b low end w = rw (w .0, w .1, cover-whole b) (whole b)
 
   -- a range that is not the whole field, from its halves
-  of-parts : (b low end : ℕ) → (Whole (suc b) low end → ⊥) → low < end → end ≤ 2 ^ suc b
+  of-parts : (b low end : ℕ) → (WholeField (suc b) low end → ⊥) → low < end → end ≤ 2 ^ suc b
       → P b low (min end (2 ^ b)) (covering b low (min end (2 ^ b))) → P b (low - 2 ^ b) (end - 2 ^ b) (covering b (low - 2 ^ b) (end - 2 ^ b))
       → P (suc b) low end (covering (suc b) low end)
   of-parts b low end w l h p q = subst (P (suc b) low end) (sym (cover-parts b low end w)) (both b low end _ _ w l h p q)

@@ -11,13 +11,13 @@ use borrow.Author.Tests.{leb-true, leb-false}
 use Rattle.words.proofs.Tests.{split as by}
 use Rattle.ranges.specs.Prefixes.{Prefix}
 use Rattle.ranges.specs.Ranges.{shifted, covering}
-use Rattle.ranges.proofs.CoverLaws.{Whole, parts-length, cover-none, cover-whole, cover-parts, None, OfWhole, OfParts, every-range}
+use Rattle.ranges.proofs.CoverLaws.{WholeField, parts-length, cover-none, cover-whole, cover-parts, None, OfWhole, OfParts, every-range}
 
 -- How many prefixes there are at most: one where the range is the whole field, as many as there are bits where it starts or ends with
 -- the field, and else 2 * bits - 2; but never less than one.
 record Few (b low end : ℕ) (ps : List Prefix) : Type 0 where
   none : end ≤ low → length ps ≡ 0
-  whole : Whole b low end → length ps ≤ 1
+  whole : WholeField b low end → length ps ≤ 1
   start : low ≡ 0 → length ps ≤ max 1 b
   stop : end ≡ 2 ^ b → length ps ≤ max 1 b
   most : length ps ≤ max 1 (b * 2 - 2)
@@ -37,11 +37,11 @@ few-whole b =
     }
 
 -- a field of one bit has no range in both halves but the whole
-more-bits : (b low end : ℕ) → (Whole (suc b) low end → ⊥) → end ≤ 2 ^ suc b → low < 2 ^ b → 2 ^ b < end → 0 < b
+more-bits : (b low end : ℕ) → (WholeField (suc b) low end → ⊥) → end ≤ 2 ^ suc b → low < 2 ^ b → 2 ^ b < end → 0 < b
 more-bits zero low end w h s t = absurd (w (omega arith, omega arith))
 more-bits (suc b) low end w h s t = omega arith
 
-module _ (b low end : ℕ) (left right : List Prefix) (w : Whole (suc b) low end → ⊥) (l : low < end) (h : end ≤ 2 ^ suc b)
+module _ (b low end : ℕ) (left right : List Prefix) (w : WholeField (suc b) low end → ⊥) (l : low < end) (h : end ≤ 2 ^ suc b)
     (p : Few b low (min end (2 ^ b)) left) (q : Few b (low - 2 ^ b) (end - 2 ^ b) right) where
   some : 0 < 2 ^ b
   some = pow-pos b
@@ -102,7 +102,7 @@ range-few b low end h = every-range Few few-none few-whole few-parts b low end h
 
 -- ---- one takes as many
 
-two-parts : (b low end : ℕ) → (Whole (suc b) low end → ⊥)
+two-parts : (b low end : ℕ) → (WholeField (suc b) low end → ⊥)
     → length (covering (suc b) low end) ≡ length (covering b low (min end (2 ^ b))) + length (covering b (low - 2 ^ b) (end - 2 ^ b))
 two-parts b low end w = ap length (cover-parts b low end w) ∙ parts-length (2 ^ b) (covering b low (min end (2 ^ b))) (covering b (low - 2 ^ b) (end - 2 ^ b))
 

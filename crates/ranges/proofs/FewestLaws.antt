@@ -12,19 +12,19 @@ use borrow.Author.Tests.{ltb-true, ltb-false}
 use Rattle.words.proofs.Tests.{split as by}
 use Rattle.rules.specs.Lists.{All, Pairs}
 use Rattle.rules.proofs.EntryLaws.{all-map}
-use Rattle.ranges.specs.Prefixes.{Prefix, prefix, PrefixOf, Before}
+use Rattle.ranges.specs.Prefixes.{Prefix, prefix, PrefixIn, Before}
 use Rattle.ranges.specs.Ranges.{shifted, covering}
 use Rattle.ranges.proofs.PrefixLaws.{inside, inside-yes, inside-early, inside-late, inside-facts, inside-left, inside-right, inside-up, spans, held, held-past, prefix-end, clear-before}
 use Rattle.ranges.proofs.StepLaws.{exponent}
 use Rattle.ranges.proofs.RangeLaws.{pairs-front, pairs-back, pairs-still}
-use Rattle.ranges.proofs.CoverLaws.{Whole, parts-length, Fact, None, OfWhole, OfParts, every-range}
+use Rattle.ranges.proofs.CoverLaws.{WholeField, parts-length, Fact, None, OfWhole, OfParts, every-range}
 
 -- A list covers exactly the numbers from low on and below the end, each once or more often.
 abbrev pub Covers : (low end : ℕ) → List Prefix → Type 0
 Covers low end qs = (n : ℕ) → min 1 (held qs n) ≡ inside low end n
 
 abbrev Fewest : Fact
-Fewest b low end ps = (qs : List Prefix) → All (PrefixOf b) qs → Covers low end qs → length ps ≤ length qs
+Fewest b low end ps = (qs : List Prefix) → All (PrefixIn b) qs → Covers low end qs → length ps ≤ length qs
 
 -- one number takes one prefix
 fewest-whole : OfWhole Fewest
@@ -38,8 +38,8 @@ fewest-whole b (q ∷ qs) a c = omega arith
 record Halves (b : ℕ) (qs : List Prefix) : Type 0 where
   left : List Prefix
   right : List Prefix
-  lefts : All (PrefixOf b) left
-  rights : All (PrefixOf b) right
+  lefts : All (PrefixIn b) left
+  rights : All (PrefixIn b) right
   size : length left + length right ≡ length qs
   low : (n : ℕ) → n < 2 ^ b → held qs n ≡ held left n
   high : (n : ℕ) → held qs (n + 2 ^ b) ≡ held right n
@@ -50,8 +50,8 @@ abbrev lowered : (n : ℕ) → Prefix → Prefix
 lowered n p = prefix (p .stars) (p .first - n)
 
 -- a prefix of the left half more
-module _ (b : ℕ) (q : Prefix) (v : PrefixOf (suc b) q) (s : q .stars ≤ b) (qs : List Prefix) (x : Halves b qs) where
-  of-left : q .first < 2 ^ b → PrefixOf b q
+module _ (b : ℕ) (q : Prefix) (v : PrefixIn (suc b) q) (s : q .stars ≤ b) (qs : List Prefix) (x : Halves b qs) where
+  of-left : q .first < 2 ^ b → PrefixIn b q
   of-left l = record { fits = s; within = l; clear = v .clear }
 
   more-left : q .first < 2 ^ b → Halves b (q ∷ qs)
@@ -71,7 +71,7 @@ module _ (b : ℕ) (q : Prefix) (v : PrefixOf (suc b) q) (s : q .stars ≤ b) (q
       }
 
   -- or of the right half
-  of-right : 2 ^ b ≤ q .first → PrefixOf b (lowered (2 ^ b) q)
+  of-right : 2 ^ b ≤ q .first → PrefixIn b (lowered (2 ^ b) q)
   of-right l =
       record { fits = s; within = omega (arith, v .within, pow-suc 2 b, l); clear = clear-before b (q .stars) (q .first) s l ∙ v .clear }
 
@@ -107,7 +107,7 @@ module _ (b : ℕ) (q : Prefix) (v : PrefixOf (suc b) q) (s : q .stars ≤ b) (q
         joined = joined-right l;
       }
 
-halves : (b : ℕ) (qs : List Prefix) → All (PrefixOf (suc b)) qs → All (λ (q : Prefix). q .stars ≤ b) qs → Halves b qs
+halves : (b : ℕ) (qs : List Prefix) → All (PrefixIn (suc b)) qs → All (λ (q : Prefix). q .stars ≤ b) qs → Halves b qs
 unfolding held
 halves b [] a s = record { left = []; right = []; lefts = tt; rights = tt; size = refl; low = λ n h. refl; high = λ n. refl; none = λ a. refl; joined = λ p. refl }
 halves b (q ∷ qs) a s =
@@ -117,15 +117,15 @@ halves b (q ∷ qs) a s =
 -- ---- a range that is not the whole field
 
 -- a prefix that is all stars covers every number of the field
-all-stars : (b : ℕ) (q : Prefix) → PrefixOf b q → b ≤ q .stars → (n : ℕ) → n < 2 ^ b → spans q n ≡ 1
+all-stars : (b : ℕ) (q : Prefix) → PrefixIn b q → b ≤ q .stars → (n : ℕ) → n < 2 ^ b → spans q n ≡ 1
 all-stars b q v s n h =
     let e : q .stars ≡ b = omega (arith, v .fits) in
     let f : q .first ≡ 0 = sym (mod-eq-of-lt (v .within)) ∙ ap (λ (x : ℕ). q .first % 2 ^ x) (sym e) ∙ v .clear in
     inside-yes (q .first) (q .first + 2 ^ q .stars) n (omega arith) (omega (arith, h, ap (λ (x : ℕ). 2 ^ x) e))
 
 -- so a list that covers less has none
-module _ (b low end : ℕ) (w : Whole b low end → ⊥) (h : end ≤ 2 ^ b) where
-  fewer-stars : (q : Prefix) → PrefixOf b q → ((n : ℕ) → 0 < spans q n → (low ≤ n) × (n < end)) → q .stars < b
+module _ (b low end : ℕ) (w : WholeField b low end → ⊥) (h : end ≤ 2 ^ b) where
+  fewer-stars : (q : Prefix) → PrefixIn b q → ((n : ℕ) → 0 < spans q n → (low ≤ n) × (n < end)) → q .stars < b
   fewer-stars q v f =
       by (ltb (q .stars) b) (λ t. ltb-true _ _ t)
       (λ g.
@@ -135,7 +135,7 @@ module _ (b low end : ℕ) (w : Whole b low end → ⊥) (h : end ≤ 2 ^ b) whe
       let y = f (2 ^ b - 1) (omega (arith, all-stars b q v s (2 ^ b - 1) (omega arith))) in
       absurd (w (omega (arith, x .0), omega (arith, y .1))))
 
-  all-fewer : (qs : List Prefix) → All (PrefixOf b) qs → ((n : ℕ) → 0 < held qs n → (low ≤ n) × (n < end)) → All (λ (q : Prefix). q .stars < b) qs
+  all-fewer : (qs : List Prefix) → All (PrefixIn b) qs → ((n : ℕ) → 0 < held qs n → (low ≤ n) × (n < end)) → All (λ (q : Prefix). q .stars < b) qs
   unfolding held
   all-fewer [] a f = tt
   all-fewer (q ∷ qs) a f = (fewer-stars q (a .0) (λ n p. f n (omega arith)), all-fewer qs (a .1) (λ n p. f n (omega arith)))
@@ -153,7 +153,7 @@ module _ (b low end : ℕ) (qs : List Prefix) (x : Halves b qs) (c : Covers low 
   covers-right : Covers (low - 2 ^ b) (end - 2 ^ b) (x .right)
   covers-right n = ap (λ (k : ℕ). min 1 k) (sym (x .high n)) ∙ c (n + 2 ^ b) ∙ sym (inside-right low end (2 ^ b) n)
 
-abbrev taken-apart : (b low end : ℕ) (qs : List Prefix) → (Whole (suc b) low end → ⊥) → end ≤ 2 ^ suc b → All (PrefixOf (suc b)) qs → Covers low end qs → Halves b qs
+abbrev taken-apart : (b low end : ℕ) (qs : List Prefix) → (WholeField (suc b) low end → ⊥) → end ≤ 2 ^ suc b → All (PrefixIn (suc b)) qs → Covers low end qs → Halves b qs
 taken-apart b low end qs w h a c = halves b qs a (all-map _ _ (λ r s. omega arith) qs (all-fewer (suc b) low end w h qs a (covers-facts low end qs c)))
 
 fewest-parts : OfParts Fewest
@@ -171,7 +171,7 @@ fewest-parts b low end left right w l h p q qs a c =
 
 -- A list that covers the range, rises and has no more prefixes is the same list.
 abbrev Only : Fact
-Only b low end ps = (qs : List Prefix) → All (PrefixOf b) qs → Covers low end qs → Pairs Before qs → length qs ≤ length ps → qs ≡ ps
+Only b low end ps = (qs : List Prefix) → All (PrefixIn b) qs → Covers low end qs → Pairs Before qs → length qs ≤ length ps → qs ≡ ps
 
 only-none : None Only
 only-none b low end h [] a c r s = refl
@@ -187,7 +187,7 @@ by-itself low end q c n l h =
     inside-facts (q .first) (q .first + 2 ^ q .stars) n (not-none (spans q n) (inside low end n) (c n) (inside-yes low end n l h))
 
 -- so one that covers the whole field is all stars
-only-star : (b : ℕ) (q : Prefix) → PrefixOf b q → Covers 0 (2 ^ b) (q ∷ []) → q ≡ prefix b 0
+only-star : (b : ℕ) (q : Prefix) → PrefixIn b q → Covers 0 (2 ^ b) (q ∷ []) → q ≡ prefix b 0
 only-star b q v c =
     let some : 0 < 2 ^ b = pow-pos b in
     let z : q .first ≡ 0 = omega (arith, by-itself 0 (2 ^ b) q c 0 (omega arith) some .0) in
@@ -225,9 +225,9 @@ only-parts b low end left right w l h p q = (fewest-parts b low end left right w
 best : (b low end : ℕ) → end ≤ 2 ^ b → Best b low end (covering b low end)
 best = every-range Best (λ b low end h. ((λ qs a c. omega arith), only-none b low end h)) (λ b. (fewest-whole b, only-whole b)) only-parts
 
-pub range-least : (b low end : ℕ) → end ≤ 2 ^ b → (qs : List Prefix) → All (PrefixOf b) qs → Covers low end qs → length (covering b low end) ≤ length qs
+pub range-least : (b low end : ℕ) → end ≤ 2 ^ b → (qs : List Prefix) → All (PrefixIn b) qs → Covers low end qs → length (covering b low end) ≤ length qs
 range-least b low end h = best b low end h .0
 
-pub range-alone : (b low end : ℕ) → end ≤ 2 ^ b → (qs : List Prefix) → All (PrefixOf b) qs → Covers low end qs → Pairs Before qs
+pub range-alone : (b low end : ℕ) → end ≤ 2 ^ b → (qs : List Prefix) → All (PrefixIn b) qs → Covers low end qs → Pairs Before qs
     → length qs ≤ length (covering b low end) → qs ≡ covering b low end
 range-alone b low end h = best b low end h .1

@@ -4,15 +4,16 @@ use mathlib.Core.List.{List, [], _∷_, _++_, map}
 use mathlib.Core.Bool.{Bool, true, _&&_}
 use Prim.Native.Nat.{ℕ, suc, _+_, _-_, _*_, _/_, _%_, _^_, _≤_, _<_, min}
 use native.Mathlib.Omega.{arith}
-use native.Mathlib.Nat.{mod-lt, mul-le-mul-right, add-mul-mod-self-right, add-mul}
-use lib.Pow.{pow-pos, pow-add, split, high, shr-lt, shr-mod}
+use native.Mathlib.Nat.{pow-suc, mod-lt, mul-assoc, mul-mod-left, mul-le-mul-right, add-mul-mod-self-right, add-mul}
+use lib.Pow.{pow-pos, pow-add, split, high, shr-lt, shr-mod, shr-shr, shl-shr, high-ones, ones-split, ones-lt}
 use lib.Dec.{eqb, leb, ltb}
 use lib.Bits.{bitAnd, and-high}
 use borrow.Author.Tests.{le-leb, lt-ltb, leb-true, leb-false, ltb-true, ltb-false}
 use Rattle.words.proofs.Tests.{split as by, same-test, true-and, and-true, eqb-yes, yes-eqb}
+use Rattle.words.specs.Words.{bit, placeBit}
 use Rattle.rules.specs.Rules.{choose}
 use Rattle.rules.specs.Lists.{All}
-use Rattle.ranges.specs.Prefixes.{Prefix, PrefixOf, careWord, matches, matching}
+use Rattle.ranges.specs.Prefixes.{Prefix, PrefixIn, careWord, prefixMatches, matching}
 use Rattle.ranges.specs.Ranges.{shifted}
 
 -- ---- multiples of a power of two
@@ -41,8 +42,53 @@ clear-before b k n h l =
     let e : n - 2 ^ b + 2 ^ b ≡ n = omega arith in
     sym (clear-after b k (n - 2 ^ b) h) ∙ ap (λ (x : ℕ). x % 2 ^ k) e
 
-pub prefix-end : (b : ℕ) (p : Prefix) → PrefixOf b p → p .first + 2 ^ p .stars ≤ 2 ^ b
+pub prefix-end : (b : ℕ) (p : Prefix) → PrefixIn b p → p .first + 2 ^ p .stars ≤ 2 ^ b
 prefix-end b p v = block-end b (p .stars) (p .first) (v .fits) (v .within) (v .clear)
+
+-- ---- the care word, place by place
+
+pub care-fits : (b : ℕ) (p : Prefix) → careWord b p < 2 ^ b
+unfolding careWord
+care-fits b p = omega (arith, pow-pos b, pow-pos (p .stars))
+
+care-blocks : (b : ℕ) (p : Prefix) → p .stars ≤ b → careWord b p ≡ (2 ^ (b - p .stars) - 1) * 2 ^ p .stars
+unfolding careWord
+care-blocks b p h = let e : b ≡ b - p .stars + p .stars = omega arith in ap (λ (x : ℕ). 2 ^ x - 2 ^ p .stars) e ∙ high-ones (b - p .stars) (p .stars)
+
+-- a number of ones has a 1 at each of its weights
+ones-bit : (j u : ℕ) → u < j → bit (2 ^ j - 1) u ≡ 1
+ones-bit j u h =
+    let i = j - u - 1 in
+    let e : j ≡ suc i + u = omega arith in
+    let t : 2 ^ suc i ≡ 2 ^ i * 2 = pow-suc 2 i in
+    let s : 0 < 2 ^ i = pow-pos i in
+    ap (λ (x : ℕ). x / 2 ^ u % 2) (ap (λ (x : ℕ). 2 ^ x - 1) e ∙ ones-split (suc i) u)
+    ∙ ap (λ (x : ℕ). x % 2) (high (2 ^ suc i - 1) u (ones-lt u))
+    ∙ omega arith
+
+-- with stars behind them: at each weight above the stars what it had, and below nothing
+bit-above : (n k u : ℕ) → bit (n * 2 ^ k) (k + u) ≡ bit n u
+bit-above n k u = ap (λ (x : ℕ). x % 2) (sym (shr-shr (n * 2 ^ k) k u) ∙ ap (λ (x : ℕ). x / 2 ^ u) (shl-shr n k))
+
+bit-under : (n t u : ℕ) → bit (n * 2 ^ (suc u + t)) t ≡ 0
+bit-under n t u =
+    ap (λ (x : ℕ). x / 2 ^ t % 2) (ap (λ (x : ℕ). n * x) (pow-add 2 (suc u) t) ∙ sym (mul-assoc n (2 ^ suc u) (2 ^ t)))
+    ∙ ap (λ (x : ℕ). x % 2) (shl-shr (n * 2 ^ suc u) t ∙ ap (λ (x : ℕ). n * x) (pow-suc 2 u) ∙ sym (mul-assoc n (2 ^ u) 2))
+    ∙ mul-mod-left (n * 2 ^ u) 2
+
+-- The places before the stars care.
+pub care-before : (b k : ℕ) (p : Prefix) → p .stars ≤ b → 1 ≤ k → k ≤ b - p .stars → placeBit b (careWord b p) k ≡ 1
+care-before b k p h l s =
+    let u = b - k - p .stars in
+    let e : b - k ≡ p .stars + u = omega arith in
+    ap₂ bit (care-blocks b p h) e ∙ bit-above (2 ^ (b - p .stars) - 1) (p .stars) u ∙ ones-bit (b - p .stars) u (omega arith)
+
+-- The places behind them do not.
+pub care-after : (b k : ℕ) (p : Prefix) → p .stars ≤ b → b - p .stars < k → k ≤ b → placeBit b (careWord b p) k ≡ 0
+care-after b k p h l s =
+    let u = p .stars - (b - k) - 1 in
+    let e : p .stars ≡ suc u + (b - k) = omega arith in
+    ap (λ (x : ℕ). bit x (b - k)) (care-blocks b p h ∙ ap (λ (x : ℕ). (2 ^ (b - p .stars) - 1) * 2 ^ x) e) ∙ bit-under (2 ^ (b - p .stars) - 1) (b - k) u
 
 -- ---- the numbers that a prefix covers
 
@@ -111,7 +157,7 @@ abbrev pub spans : Prefix → (n : ℕ) → ℕ
 spans p n = inside (p .first) (p .first + 2 ^ p .stars) n
 
 -- a number of the field under a prefix's care word is the start of its block
-under-care : (b n : ℕ) (p : Prefix) → p .stars ≤ b → n < 2 ^ b → bitAnd n (careWord b p) ≡ n / 2 ^ p .stars * 2 ^ p .stars
+pub under-care : (b n : ℕ) (p : Prefix) → p .stars ≤ b → n < 2 ^ b → bitAnd n (careWord b p) ≡ n / 2 ^ p .stars * 2 ^ p .stars
 unfolding careWord
 under-care b n p h l =
     let j = b - p .stars in
@@ -121,9 +167,9 @@ under-care b n p h l =
     ∙ ap (λ (x : ℕ). x * 2 ^ p .stars) (shr-mod j (p .stars) (subst (λ (x : ℕ). n < 2 ^ x) e l))
 
 -- A number of the field matches a prefix exactly where it is one of the 2^stars numbers from its first on.
-pub matches-exactly : (b n : ℕ) (p : Prefix) → PrefixOf b p → n < 2 ^ b → matches b p n ≡ (leb (p .first) n && ltb n (p .first + 2 ^ p .stars))
-unfolding matches
-matches-exactly b n p v l =
+pub prefix-matches-exactly : (b n : ℕ) (p : Prefix) → PrefixIn b p → n < 2 ^ b → prefixMatches b p n ≡ (leb (p .first) n && ltb n (p .first + 2 ^ p .stars))
+unfolding prefixMatches
+prefix-matches-exactly b n p v l =
     ap (λ (x : ℕ). eqb x (p .first)) (under-care b n p (v .fits) l)
     ∙ same-test (eqb (n / 2 ^ p .stars * 2 ^ p .stars) (p .first)) (leb (p .first) n && ltb n (p .first + 2 ^ p .stars)) there back
   where
@@ -154,11 +200,11 @@ held [] n = 0
 held (p ∷ ps) n = spans p n + held ps n
 
 -- these are those that it matches
-pub matching-held : (b n : ℕ) (ps : List Prefix) → All (PrefixOf b) ps → n < 2 ^ b → matching b ps n ≡ held ps n
+pub matching-held : (b n : ℕ) (ps : List Prefix) → All (PrefixIn b) ps → n < 2 ^ b → matching b ps n ≡ held ps n
 unfolding matching held
 matching-held b n [] a l = refl
 matching-held b n (p ∷ ps) a l =
-    ap₂ (λ (x y : ℕ). x + y) (ap (λ (t : Bool). choose t 1 0) (matches-exactly b n p (a .0) l) ∙ inside-choose (p .first) (p .first + 2 ^ p .stars) n) (matching-held b n ps (a .1) l)
+    ap₂ (λ (x y : ℕ). x + y) (ap (λ (t : Bool). choose t 1 0) (prefix-matches-exactly b n p (a .0) l) ∙ inside-choose (p .first) (p .first + 2 ^ p .stars) n) (matching-held b n ps (a .1) l)
 
 pub held-append : (n : ℕ) (xs ys : List Prefix) → held (xs ++ ys) n ≡ held xs n + held ys n
 unfolding held
@@ -179,7 +225,7 @@ held-above m n (p ∷ ps) h =
     ap₂ (λ (x y : ℕ). x + y) (ap (λ (x : ℕ). inside (p .first + m) x n) e ∙ inside-up (p .first) (p .first + 2 ^ p .stars) m n h) (held-above m n ps h)
 
 -- prefixes of a field cover nothing past it
-pub held-past : (b n : ℕ) (ps : List Prefix) → All (PrefixOf b) ps → 2 ^ b ≤ n → held ps n ≡ 0
+pub held-past : (b n : ℕ) (ps : List Prefix) → All (PrefixIn b) ps → 2 ^ b ≤ n → held ps n ≡ 0
 unfolding held
 held-past b n [] a h = refl
 held-past b n (p ∷ ps) a h = omega (arith, held-past b n ps (a .1) h, prefix-end b p (a .0))

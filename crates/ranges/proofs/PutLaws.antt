@@ -8,7 +8,7 @@ use lib.Seq.{drop-cons, set-at, append-snoc}
 use Rattle.ranges.specs.Prefixes.{Prefix, prefix, careWord, valueWord}
 use Rattle.ranges.specs.Ranges.{covering}
 use Rattle.ranges.specs.Calls.{wordsPut}
-use Rattle.ranges.specs.Inner.{Widest, Put}
+use Rattle.ranges.specs.Inner.{Widest, PrefixesPut}
 use Rattle.ranges.proofs.CoverLaws.{cover-none}
 use Rattle.ranges.proofs.StepLaws.{widest-first}
 
@@ -58,7 +58,7 @@ module _ (b low end : ℕ) (cs vs : List ℕ) (at n : ℕ) (cs′ vs′ : List �
         values = ap (λ (l : List ℕ). set l n at) (x .values) ∙ put-more valueWord (x .done) (prefix k at) vs n (x .size) q;
       }
 
-  pub putting-done : end ≤ at → Put b low end cs vs cs′ vs′ n
+  pub putting-done : end ≤ at → PrefixesPut b low end cs vs cs′ vs′ n
   putting-done h =
       let e : covering b low end ≡ x .done = x .all ∙ ap (λ (ps : List Prefix). x .done ++ ps) (cover-none b at end h) ∙ append-nil (x .done) in
       record {

@@ -11,7 +11,7 @@ use Rattle.words.proofs.Tests.{split as by}
 use lib.Pow.{pow-pos}
 use Rattle.rules.specs.Lists.{All, Pairs}
 use Rattle.rules.proofs.EntryLaws.{all-map, all-append}
-use Rattle.ranges.specs.Prefixes.{Prefix, PrefixOf, Before}
+use Rattle.ranges.specs.Prefixes.{Prefix, PrefixIn, Before}
 use Rattle.ranges.specs.Ranges.{shifted, covering}
 use Rattle.ranges.proofs.PrefixLaws.{inside, inside-left, inside-right, inside-late, held, held-append, held-below, held-above, clear-after}
 use Rattle.ranges.proofs.CoverLaws.{Fact, None, OfWhole, OfParts, every-range}
@@ -19,7 +19,7 @@ use Rattle.ranges.proofs.CoverLaws.{Fact, None, OfWhole, OfParts, every
 -- ---- they are prefixes of the field
 
 abbrev Fitting : Fact
-Fitting b low end ps = All (PrefixOf b) ps
+Fitting b low end ps = All (PrefixIn b) ps
 
 -- what holds of each moved prefix
 all-moved : (P Q : Prefix → Type 0) (m : ℕ) → ((p : Prefix) → P p → Q (shifted m p)) → (ps : List Prefix) → All P ps → All Q (map (shifted m) ps)
@@ -27,23 +27,23 @@ all-moved P Q m f [] a = tt
 all-moved P Q m f (p ∷ ps) a = (f p (a .0), all-moved P Q m f ps (a .1))
 
 -- a prefix of the left half, and one of the right half, is a prefix of the field
-fits-left : (b : ℕ) (p : Prefix) → PrefixOf b p → PrefixOf (suc b) p
+fits-left : (b : ℕ) (p : Prefix) → PrefixIn b p → PrefixIn (suc b) p
 fits-left b p v =
     let f : p .stars ≤ b = v .fits in
     let w : p .first < 2 ^ b = v .within in
     record { fits = omega arith; within = omega (arith, pow-suc 2 b); clear = v .clear }
 
-fits-right : (b : ℕ) (p : Prefix) → PrefixOf b p → PrefixOf (suc b) (shifted (2 ^ b) p)
+fits-right : (b : ℕ) (p : Prefix) → PrefixIn b p → PrefixIn (suc b) (shifted (2 ^ b) p)
 fits-right b p v =
     let f : p .stars ≤ b = v .fits in
     let w : p .first < 2 ^ b = v .within in
     record { fits = omega arith; within = omega (arith, pow-suc 2 b); clear = clear-after b (p .stars) (p .first) f ∙ v .clear }
 
-pub range-fits : (b low end : ℕ) → end ≤ 2 ^ b → All (PrefixOf b) (covering b low end)
+pub range-fits : (b low end : ℕ) → end ≤ 2 ^ b → All (PrefixIn b) (covering b low end)
 range-fits =
     every-range Fitting (λ b low end h. tt)
     (λ b. (record { fits = omega arith; within = pow-pos b; clear = mod-eq-of-lt (pow-pos b) }, tt))
-    (λ b low end left right w l h p q. all-append (PrefixOf (suc b)) left _ (all-map _ _ (fits-left b) left p) (all-moved (PrefixOf b) _ (2 ^ b) (fits-right b) right q))
+    (λ b low end left right w l h p q. all-append (PrefixIn (suc b)) left _ (all-map _ _ (fits-left b) left p) (all-moved (PrefixIn b) _ (2 ^ b) (fits-right b) right q))
 
 -- ---- each number of the range once, and no other
 

@@ -15,7 +15,7 @@ use Rattle.ranges.specs.Prefixes.{Prefix, prefix}
 use Rattle.ranges.specs.Ranges.{shifted, covering}
 use Rattle.ranges.specs.Inner.{opens, Widest}
 use Rattle.ranges.proofs.PrefixLaws.{block-end, clear-before}
-use Rattle.ranges.proofs.CoverLaws.{Whole, by-whole, cover-none, cover-whole, cover-parts}
+use Rattle.ranges.proofs.CoverLaws.{WholeField, by-whole, cover-none, cover-whole, cover-parts}
 
 -- the lesser power has the lesser exponent
 pub exponent : (i j : ℕ) → 2 ^ i ≤ 2 ^ j → i ≤ j
@@ -85,7 +85,7 @@ whole-stars b k g =
     absurd (g .full (mod-eq-of-lt (pow-pos (suc k))) (omega arith)))
     (λ f. let l : b ≤ k = ltb-false _ _ f in omega arith)
 
-step-whole : (b low end k : ℕ) → Whole b low end → Greatest low end k → covering b low end ≡ prefix k low ∷ covering b (low + 2 ^ k) end
+step-whole : (b low end k : ℕ) → WholeField b low end → Greatest low end k → covering b low end ≡ prefix k low ∷ covering b (low + 2 ^ k) end
 step-whole b low end k w g =
     let h : Greatest 0 (2 ^ b) k = subst (λ (x : ℕ). Greatest x (2 ^ b) k) (w .0) (subst (λ (x : ℕ). Greatest low x k) (w .1) g) in
     let e : k ≡ b = whole-stars b k h in
@@ -95,7 +95,7 @@ step-whole b low end k w g =
 -- ---- a range of two halves
 
 -- a prefix that is less than the field lies in one half
-half-stars : (b low end k : ℕ) → (Whole (suc b) low end → ⊥) → end ≤ 2 ^ suc b → Greatest low end k → k ≤ b
+half-stars : (b low end k : ℕ) → (WholeField (suc b) low end → ⊥) → end ≤ 2 ^ suc b → Greatest low end k → k ≤ b
 half-stars b low end k w h g =
     by (leb k b) (λ t. leb-true _ _ t)
     (λ f. let l : 2 ^ suc b ≤ 2 ^ k = pow-mono (leb-false _ _ f) in let s = g .fits in absurd (w (omega arith, omega arith)))
@@ -106,7 +106,7 @@ greatest-left b low end k s l g =
     let e : low + 2 ^ k ≤ 2 ^ b = block-end b k low s l (g .clear) in
     record { clear = g .clear; fits = omega (arith, e, g .fits); full = λ c h. g .full c (omega (arith, h)) }
 
-step-left : (b low end k : ℕ) → (Whole (suc b) low end → ⊥) → k ≤ b → low < 2 ^ b → Greatest low end k
+step-left : (b low end k : ℕ) → (WholeField (suc b) low end → ⊥) → k ≤ b → low < 2 ^ b → Greatest low end k
     → covering b low (min end (2 ^ b)) ≡ prefix k low ∷ covering b (low + 2 ^ k) (min end (2 ^ b))
     → covering (suc b) low end ≡ prefix k low ∷ covering (suc b) (low + 2 ^ k) end
 step-left b low end k w s l g ih =
@@ -128,7 +128,7 @@ greatest-right b low end k h s l g =
           g .full (sym (clear-before b (suc k) low (exponent (suc k) b small) l) ∙ c) (omega (arith, r, pow-pos (suc k)));
     }
 
-step-right : (b low end k : ℕ) → (Whole (suc b) low end → ⊥) → 2 ^ b ≤ low
+step-right : (b low end k : ℕ) → (WholeField (suc b) low end → ⊥) → 2 ^ b ≤ low
     → covering b (low - 2 ^ b) (end - 2 ^ b) ≡ prefix k (low - 2 ^ b) ∷ covering b (low - 2 ^ b + 2 ^ k) (end - 2 ^ b)
     → covering (suc b) low end ≡ prefix k low ∷ covering (suc b) (low + 2 ^ k) end
 step-right b low end k w l ih =
@@ -145,7 +145,7 @@ step-right b low end k w l ih =
 
 -- ---- every range
 
-no-bits : (low end k : ℕ) → end ≤ 1 → Greatest low end k → Whole 0 low end
+no-bits : (low end k : ℕ) → end ≤ 1 → Greatest low end k → WholeField 0 low end
 no-bits low end k h g = let s : 0 < 2 ^ k = pow-pos k in let f = g .fits in (omega arith, omega arith)
 
 pub greatest-first : (b low end k : ℕ) → end ≤ 2 ^ b → Greatest low end k → covering b low end ≡ prefix k low ∷ covering b (low + 2 ^ k) end

@@ -11,26 +11,35 @@ use lib.ListN.{length, length-map, take, drop}
 use lib.Seq.{take-at, drop-at}
 use borrow.Author.Tests.{leb-true, ltb-true, ltb-false, le-leb, lt-ltb}
 use Rattle.words.proofs.Tests.{split as by, same-test}
-use Rattle.rules.specs.Rules.{rule, choose, matches as ruleMatches}
+use Rattle.rules.specs.Rules.{rule, choose, matches, noMatch, Valid}
 use Rattle.rules.specs.Lists.{All, Pairs}
 use Rattle.rules.specs.Replies.{Reply, Gives, Refuses, passed, need, _then_, unlessRefused}
 use Rattle.rules.specs.Checks.{roomCheck}
 use Rattle.rules.proofs.ReplyLaws.{gives-refuses, then-next, then-second, one-value}
 use Rattle.rules.proofs.CheckLaws.{room-yes}
 use Rattle.ranges.specs.declared.Covered.{Covered}
-use Rattle.ranges.specs.Prefixes.{Prefix, PrefixOf, careWord, valueWord, matches, matching, inRange, CoversExactly, Before}
+use Rattle.ranges.specs.Prefixes.{Prefix, PrefixIn, careWord, valueWord, prefixMatches, matching, inRange, CoversExactly, Before}
 use Rattle.ranges.specs.Ranges.{covering, rangePrefixes}
-use Rattle.ranges.specs.Calls.{widestField, fieldCheck, rangeCheck, checkRange, resultsCheck, prefixesCheck, prefixesReply, wordsPut, PrefixesDone}
-use Rattle.ranges.proofs.PrefixLaws.{inside, inside-choose, inside-exactly, inside-late, held-past, matching-held, held}
+use Rattle.ranges.specs.Calls.{widestField, fieldCheck, boundsCheck, checkRange, sameLengthCheck, prefixesCheck, prefixesReply, wordsPut, PrefixesDone}
+use Rattle.ranges.proofs.PrefixLaws.{blocks, under-care, care-fits, inside, inside-choose, inside-exactly, inside-late, held-past, matching-held, held}
 use Rattle.ranges.proofs.RangeLaws.{range-fits, range-once, range-rising}
 use Rattle.ranges.proofs.FewLaws.{range-few, all-but-both}
 use Rattle.ranges.proofs.FewestLaws.{Covers, range-least, range-alone}
 use Rattle.ranges.proofs.CallLaws.{bare-range, ranged, check-prefixes}
 
 -- A number matches a prefix exactly where, as a header, it matches a rule with the prefix's two words.
-pub matches-as-a-rule : (b n d : ℕ) (p : Prefix) → matches b p n ≡ ruleMatches (rule (careWord b p) (valueWord p) d) n
-unfolding matches ruleMatches
+pub matches-as-a-rule : (b n d : ℕ) (p : Prefix) → prefixMatches b p n ≡ matches (rule (careWord b p) (valueWord p) d) n
+unfolding prefixMatches matches
 matches-as-a-rule b n d p = refl
+
+-- And these two words, with any decision, are a rule of the field's width that passes its checks.
+pub prefix-valid : (b d : ℕ) (p : Prefix) → PrefixIn b p → d < noMatch → Valid b (rule (careWord b p) (valueWord p) d)
+prefix-valid b d p v h =
+    record {
+      within = under-care b (p .first) p (v .fits) (v .within) ∙ blocks (p .first) (p .stars) (v .clear);
+      fits = care-fits b p;
+      decides = h;
+    }
 
 -- a number is at most `high` where it is less than the next one
 below-next : (n high : ℕ) → leb n high ≡ ltb n (high + 1)
@@ -50,7 +59,7 @@ same-sign x y h e =
     (λ f. let p : x ≤ 0 = ltb-false 0 x f in let q : y ≤ 0 = ltb-false 0 y (sym e ∙ f) in omega arith)
 
 -- The prefixes of a range as they are counted from where each starts and ends.
-covers-all : (b low end : ℕ) (ps : List Prefix) → end ≤ 2 ^ b → All (PrefixOf b) ps
+covers-all : (b low end : ℕ) (ps : List Prefix) → end ≤ 2 ^ b → All (PrefixIn b) ps
     → ((n : ℕ) → n < 2 ^ b → ltb 0 (matching b ps n) ≡ (leb low n && ltb n end)) → Covers low end ps
 covers-all b low end ps h a c n =
     by (ltb n (2 ^ b))
@@ -63,7 +72,7 @@ module _ (b low high : ℕ) (h : high < 2 ^ b) where
   ends = omega arith
 
   -- They are prefixes of the field.
-  pub range-fit : All (PrefixOf b) (rangePrefixes b low high)
+  pub range-fit : All (PrefixIn b) (rangePrefixes b low high)
   range-fit = range-fits b low (high + 1) ends
 
   -- A number of the field that lies in the range matches one of them and no other; one that does not matches none.
@@ -84,11 +93,11 @@ module _ (b low high : ℕ) (h : high < 2 ^ b) where
   range-rises = range-rising b low (high + 1) ends
 
   -- No list of prefixes of the field that covers the range exactly, whether they overlap or not, has fewer.
-  pub range-fewest : (ps : List Prefix) → All (PrefixOf b) ps → CoversExactly b low high ps → length (rangePrefixes b low high) ≤ length ps
+  pub range-fewest : (ps : List Prefix) → All (PrefixIn b) ps → CoversExactly b low high ps → length (rangePrefixes b low high) ≤ length ps
   range-fewest ps a c = range-least b low (high + 1) ends ps a (covers-all b low (high + 1) ps ends a (λ n l. c n l ∙ in-range low high n))
 
   -- And no other list does it that rises and has no more: what was asked for has one answer.
-  pub range-only : (ps : List Prefix) → All (PrefixOf b) ps → CoversExactly b low high ps → Pairs Before ps → length ps ≤ length (rangePrefixes b low high)
+  pub range-only : (ps : List Prefix) → All (PrefixIn b) ps → CoversExactly b low high ps → Pairs Before ps → length ps ≤ length (rangePrefixes b low high)
       → ps ≡ rangePrefixes b low high
   range-only ps a c r s = range-alone b low (high + 1) ends ps a (covers-all b low (high + 1) ps ends a (λ n l. c n l ∙ in-range low high n)) r s
 
@@ -126,9 +135,9 @@ nor-next (Gives ns) b f g l r e = g (ns, refl) l r e
 nor-next (Refuses n i j) b f g l r e = f l r e
 
 range-not-seven : (b low high : ℕ) → NotSeven (checkRange b low high)
-unfolding checkRange fieldCheck rangeCheck
+unfolding checkRange fieldCheck boundsCheck
 range-not-seven b low high =
-    nor-next (fieldCheck b) (rangeCheck b low high) (other-number (leb 1 b && leb b widestField) 1 0 0 (λ e. omega arith))
+    nor-next (fieldCheck b) (boundsCheck b low high) (other-number (leb 1 b && leb b widestField) 1 0 0 (λ e. omega arith))
     (λ g. other-number (leb low high && ltb high (2 ^ b)) 20 0 0 (λ e. omega arith))
 
 room-not-seven : (n m : ℕ) → n ≤ m → NotSeven (roomCheck n m)
@@ -136,7 +145,7 @@ room-not-seven n m h l r e = gives-refuses (sym (room-yes n m h) ∙ e)
 
 -- No call with so many places is refused 7, whatever else it is given.
 pub never-seven : (b low high : ℕ) (cs vs : List ℕ) → max 1 (b * 2 - 2) ≤ length cs → NotSeven (prefixesReply b low high cs vs)
-unfolding prefixesReply prefixesCheck resultsCheck
+unfolding prefixesReply prefixesCheck sameLengthCheck
 never-seven b low high cs vs room = nor-next (prefixesCheck b low high cs vs) _ checks (λ g l r e. gives-refuses e)
   where
     checks : NotSeven (prefixesCheck b low high cs vs)
@@ -144,13 +153,13 @@ never-seven b low high cs vs room = nor-next (prefixesCheck b low high cs vs) _ 
         nor-next (checkRange b low high) _ (range-not-seven b low high)
         (λ g.
         let p = ranged b low high (bare-range b low high (g .0) (g .1)) .within in
-        nor-next (resultsCheck cs vs) _ (other-number (eqb (length cs) (length vs)) 2 0 0 (λ e. omega arith))
+        nor-next (sameLengthCheck cs vs) _ (other-number (eqb (length cs) (length vs)) 2 0 0 (λ e. omega arith))
         (λ s. room-not-seven _ _ (omega (arith, room, range-at-most b low high p))))
 
 -- ---- what an answered call leaves
 
 -- The first places of both slices have the words of the prefixes, as many as the call says, and the later places what they had.
-pub record Written (b low high : ℕ) (cs vs cs′ vs′ : List ℕ) (n : ℕ) : Type 0 where
+pub record PrefixesWritten (b low high : ℕ) (cs vs cs′ vs′ : List ℕ) (n : ℕ) : Type 0 where
   pub count : n ≡ length (rangePrefixes b low high)
   pub cares : take n cs′ ≡ map (careWord b) (rangePrefixes b low high)
   pub values : take n vs′ ≡ map valueWord (rangePrefixes b low high)
@@ -165,7 +174,7 @@ put-back : (f : Prefix → ℕ) (ps : List Prefix) (old : List ℕ) (n : ℕ) �
 unfolding wordsPut
 put-back f ps old n e = drop-at (map f ps) (drop (length ps) old) n (length-map ps f ∙ sym e) ∙ ap (λ (k : ℕ). drop k old) (sym e)
 
-pub prefixes-written : (b low high : ℕ) (cs vs cs′ vs′ : List ℕ) (n : ℕ) → PrefixesDone b low high cs vs cs′ vs′ (Covered.Prefixes n) → Written b low high cs vs cs′ vs′ n
+pub prefixes-written : (b low high : ℕ) (cs vs cs′ vs′ : List ℕ) (n : ℕ) → PrefixesDone b low high cs vs cs′ vs′ (Covered.Prefixes n) → PrefixesWritten b low high cs vs cs′ vs′ n
 unfolding prefixesReply
 prefixes-written b low high cs vs cs′ vs′ n d =
     let said : prefixesReply b low high cs vs ≡ Gives (n ∷ []) = sym (d .reply) in

@@ -4,7 +4,7 @@ use mathlib.Core.List.{List}
 use Prim.Native.Nat.{ℕ}
 use Rattle.rules.proofs.ReplyLaws.{one-refusal, one-value, gives-refuses}
 use Rattle.ranges.specs.declared.Covered.{Covered}
-use Rattle.ranges.specs.Calls.{coveredReply, countReply, PrefixesDone}
+use Rattle.ranges.specs.Calls.{coveredReply, prefixCountReply, PrefixesDone}
 
 -- two answers with the same number of prefixes, or the same refusal, are one
 pub one-covered : (a b : Covered) → coveredReply a ≡ coveredReply b → a ≡ b
@@ -14,7 +14,7 @@ one-covered (Covered.Refused x) (Covered.Prefixes n) e = absurd (gives-refuses (
 one-covered (Covered.Refused x) (Covered.Refused y) e = ap Covered.Refused (one-refusal x y e)
 
 -- `range_prefix_count`: two answers that meet the promise are equal
-pub range-prefix-count-once : (b low high : ℕ) (x y : Covered) → coveredReply x ≡ countReply b low high → coveredReply y ≡ countReply b low high → x ≡ y
+pub range-prefix-count-once : (b low high : ℕ) (x y : Covered) → coveredReply x ≡ prefixCountReply b low high → coveredReply y ≡ prefixCountReply b low high → x ≡ y
 range-prefix-count-once b low high x y p q = one-covered x y (p ∙ sym q)
 
 -- `range_prefixes`: two results that meet the promise are equal, both result slices too

@@ -25,26 +25,26 @@ unfoldable pub fieldCheck : (bits : ℕ) → Reply
 fieldCheck b = need (leb 1 b && leb b widestField) 1 0 0
 
 -- Refusal 20: low is above high, or high is no number of the field.
-unfoldable pub rangeCheck : (bits low high : ℕ) → Reply
-rangeCheck b low high = need (leb low high && ltb high (2 ^ b)) 20 0 0
+unfoldable pub boundsCheck : (bits low high : ℕ) → Reply
+boundsCheck b low high = need (leb low high && ltb high (2 ^ b)) 20 0 0
 
 -- Refusal 2: the two result slices differ in length.
-unfoldable pub resultsCheck : (cares values : List ℕ) → Reply
-resultsCheck cs vs = need (eqb (length cs) (length vs)) 2 0 0
+unfoldable pub sameLengthCheck : (cares values : List ℕ) → Reply
+sameLengthCheck cs vs = need (eqb (length cs) (length vs)) 2 0 0
 
 -- A range of a field: 1, then 20.
 unfoldable pub checkRange : (bits low high : ℕ) → Reply
-checkRange b low high = fieldCheck b then rangeCheck b low high
+checkRange b low high = fieldCheck b then boundsCheck b low high
 
 -- The checks of the range; else the number of prefixes.
-unfoldable pub countReply : (bits low high : ℕ) → Reply
-countReply b low high = checkRange b low high then Gives (length (rangePrefixes b low high) ∷ [])
+unfoldable pub prefixCountReply : (bits low high : ℕ) → Reply
+prefixCountReply b low high = checkRange b low high then Gives (length (rangePrefixes b low high) ∷ [])
 
 -- The checks of the range, then 2 of the result slices, then 7: a place for each prefix.
 unfoldable pub prefixesCheck : (bits low high : ℕ) → (cares values : List ℕ) → Reply
 prefixesCheck b low high cs vs =
     checkRange b low high
-    then resultsCheck cs vs
+    then sameLengthCheck cs vs
     then roomCheck (length (rangePrefixes b low high)) (length cs)
 
 -- These checks; else the number of prefixes.

@@ -19,7 +19,7 @@ pub record Widest (at end stars : ℕ) : Type 0 where
   pub full : opens at end (suc stars) ≡ false
 
 -- Both slices after the prefixes of a range were written.
-pub record Put (b low end : ℕ) (cs vs cs′ vs′ : List ℕ) (n : ℕ) : Type 0 where
+pub record PrefixesPut (b low end : ℕ) (cs vs cs′ vs′ : List ℕ) (n : ℕ) : Type 0 where
   pub count : n ≡ length (covering b low end)
   pub cares : cs′ ≡ wordsPut (careWord b) (covering b low end) cs
   pub values : vs′ ≡ wordsPut valueWord (covering b low end) vs

@@ -17,12 +17,13 @@ abbrev pub prefix : (stars first : ℕ) → Prefix
 prefix s n = record { stars = s; first = n }
 
 -- What a prefix of a field of so many bits keeps to: it has no more places than the field, and no value bit under a star.
-pub record PrefixOf (bits : ℕ) (p : Prefix) : Type 0 where
+pub record PrefixIn (bits : ℕ) (p : Prefix) : Type 0 where
   pub fits : p .stars ≤ bits
   pub within : p .first < 2 ^ bits
   pub clear : p .first % 2 ^ p .stars ≡ 0
 
--- Its two words (01, Patterns and lists): a care bit at each place before the stars, and the value of these places.
+-- Its two words (01, Patterns and lists): a care bit at each place before the stars and at no other (the laws `care-before` and
+-- `care-after`), and the value of these places.
 unfoldable pub careWord : (bits : ℕ) → Prefix → ℕ
 careWord b p = 2 ^ b - 2 ^ p .stars
 
@@ -30,16 +31,16 @@ abbrev pub valueWord : Prefix → ℕ
 valueWord p = p .first
 
 -- Whether a number of the field matches a prefix, as a header matches a rule (01, Patterns and lists). That the numbers which match are
--- the 2^stars numbers from the first on is the law `matches-exactly`.
-unfoldable pub matches : (bits : ℕ) → Prefix → (n : ℕ) → Bool
+-- the 2^stars numbers from the first on is the law `prefix-matches-exactly`.
+unfoldable pub prefixMatches : (bits : ℕ) → Prefix → (n : ℕ) → Bool
 unfolding careWord
-matches b p n = eqb (bitAnd n (careWord b p)) (valueWord p)
+prefixMatches b p n = eqb (bitAnd n (careWord b p)) (valueWord p)
 
 -- How many prefixes of a list a number matches.
 unfoldable pub matching : (bits : ℕ) → List Prefix → (n : ℕ) → ℕ
-unfolding matches
+unfolding prefixMatches
 matching b [] n = 0
-matching b (p ∷ ps) n = choose (matches b p n) 1 0 + matching b ps n
+matching b (p ∷ ps) n = choose (prefixMatches b p n) 1 0 + matching b ps n
 
 -- Whether a number lies from low to high.
 abbrev pub inRange : (low high n : ℕ) → Bool

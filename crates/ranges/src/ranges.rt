@@ -4,8 +4,8 @@ ghost use Prim.Native.Nat.{_^_, _≤_, _<_};
 ghost use lib.ListN.{length};
 ghost use Rattle.rules.specs.Replies.{verdictReply};
 ghost use Rattle.ranges.specs.Ranges.{covering};
-ghost use Rattle.ranges.specs.Calls.{coveredReply, widestField, checkRange, countReply, prefixesCheck, PrefixesDone};
-ghost use Rattle.ranges.specs.Inner.{opens, Widest, Put};
+ghost use Rattle.ranges.specs.Calls.{coveredReply, widestField, checkRange, prefixCountReply, prefixesCheck, PrefixesDone};
+ghost use Rattle.ranges.specs.Inner.{opens, Widest, PrefixesPut};
 use crate::Covered;
 use rules::Verdict;
 use rules::refused;
@@ -79,7 +79,7 @@ fn count_below(bits: u32, low: u32, end: u32) -> usize
 fn put_below(bits: u32, low: u32, end: u32, care: &mut [u16], value: &mut [u16]) -> usize
     requires { ⌜ (bits ≤ widestField) × (end ≤ 2 ^ bits) ⌝ }
     requires { ⌜ (length (covering bits low end) ≤ length (now care)) × (length (covering bits low end) ≤ length (now value)) ⌝ }
-    ensures { λ n. ⌜ Put bits low end (now (care .entry)) (now (value .entry)) (now (care .exit)) (now (value .exit)) n ⌝ }
+    ensures { λ n. ⌜ PrefixesPut bits low end (now (care .entry)) (now (value .entry)) (now (care .exit)) (now (value .exit)) n ⌝ }
 {
     let field = power(bits);
     let mut at = low;
@@ -96,7 +96,7 @@ fn put_below(bits: u32, low: u32, end: u32, care: &mut [u16], value: &mut [u16])
 
 // How many prefixes the range from low to high takes: 1, then 20; else the number.
 pub fn range_prefix_count(bits: u32, low: u32, high: u32) -> Covered
-    ensures { λ r. ⌜ coveredReply r ≡ countReply bits low high ⌝ }
+    ensures { λ r. ⌜ coveredReply r ≡ prefixCountReply bits low high ⌝ }
 {
     if let Verdict::Refused(x) = range_verdict(bits, low, high) {
         return Covered::Refused(x);
