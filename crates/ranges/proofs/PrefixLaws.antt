@@ -4,13 +4,15 @@ use mathlib.Core.List.{List, [], _∷_, _++_, map}
 use mathlib.Core.Bool.{Bool, true, _&&_}
 use Prim.Native.Nat.{ℕ, suc, _+_, _-_, _*_, _/_, _%_, _^_, _≤_, _<_, min}
 use native.Mathlib.Omega.{arith}
-use native.Mathlib.Nat.{pow-suc, mod-lt, mul-assoc, mul-mod-left, mul-le-mul-right, add-mul-mod-self-right, add-mul}
-use lib.Pow.{pow-pos, pow-add, split, high, shr-lt, shr-mod, shr-shr, shl-shr, high-ones, ones-split, ones-lt}
+use native.Mathlib.Nat.{pow-suc, mod-lt, zero-add, mul-le-mul-right, add-mul-mod-self-right, add-mul}
+use lib.Pow.{pow-pos, pow-add, split, high, shr-lt, shr-mod, high-ones, ones-split, ones-lt}
 use lib.Dec.{eqb, leb, ltb}
 use lib.Bits.{bitAnd, and-high}
 use borrow.Author.Tests.{le-leb, lt-ltb, leb-true, leb-false, ltb-true, ltb-false}
 use Rattle.words.proofs.Tests.{split as by, same-test, true-and, and-true, eqb-yes, yes-eqb}
 use Rattle.words.specs.Words.{bit, placeBit}
+use Rattle.words.proofs.BitLaws.{bit-high}
+use Rattle.words.proofs.SeamLaws.{bit-below, bit-above}
 use Rattle.rules.specs.Rules.{choose}
 use Rattle.rules.specs.Lists.{All}
 use Rattle.ranges.specs.Prefixes.{Prefix, PrefixIn, careWord, prefixMatches, matching}
@@ -66,29 +68,19 @@ ones-bit j u h =
     ∙ ap (λ (x : ℕ). x % 2) (high (2 ^ suc i - 1) u (ones-lt u))
     ∙ omega arith
 
--- with stars behind them: at each weight above the stars what it had, and below nothing
-bit-above : (n k u : ℕ) → bit (n * 2 ^ k) (k + u) ≡ bit n u
-bit-above n k u = ap (λ (x : ℕ). x % 2) (sym (shr-shr (n * 2 ^ k) k u) ∙ ap (λ (x : ℕ). x / 2 ^ u) (shl-shr n k))
-
-bit-under : (n t u : ℕ) → bit (n * 2 ^ (suc u + t)) t ≡ 0
-bit-under n t u =
-    ap (λ (x : ℕ). x / 2 ^ t % 2) (ap (λ (x : ℕ). n * x) (pow-add 2 (suc u) t) ∙ sym (mul-assoc n (2 ^ suc u) (2 ^ t)))
-    ∙ ap (λ (x : ℕ). x % 2) (shl-shr (n * 2 ^ suc u) t ∙ ap (λ (x : ℕ). n * x) (pow-suc 2 u) ∙ sym (mul-assoc n (2 ^ u) 2))
-    ∙ mul-mod-left (n * 2 ^ u) 2
-
 -- The places before the stars care.
 pub care-before : (b k : ℕ) (p : Prefix) → p .stars ≤ b → 1 ≤ k → k ≤ b - p .stars → placeBit b (careWord b p) k ≡ 1
 care-before b k p h l s =
-    let u = b - k - p .stars in
-    let e : b - k ≡ p .stars + u = omega arith in
-    ap₂ bit (care-blocks b p h) e ∙ bit-above (2 ^ (b - p .stars) - 1) (p .stars) u ∙ ones-bit (b - p .stars) u (omega arith)
+    ap (λ (x : ℕ). bit x (b - k)) (care-blocks b p h ∙ sym (zero-add _))
+    ∙ bit-above (p .stars) 0 (2 ^ (b - p .stars) - 1) (b - k) (pow-pos (p .stars)) (omega arith)
+    ∙ ones-bit (b - p .stars) (b - k - p .stars) (omega arith)
 
 -- The places behind them do not.
 pub care-after : (b k : ℕ) (p : Prefix) → p .stars ≤ b → b - p .stars < k → k ≤ b → placeBit b (careWord b p) k ≡ 0
 care-after b k p h l s =
-    let u = p .stars - (b - k) - 1 in
-    let e : p .stars ≡ suc u + (b - k) = omega arith in
-    ap (λ (x : ℕ). bit x (b - k)) (care-blocks b p h ∙ ap (λ (x : ℕ). (2 ^ (b - p .stars) - 1) * 2 ^ x) e) ∙ bit-under (2 ^ (b - p .stars) - 1) (b - k) u
+    ap (λ (x : ℕ). bit x (b - k)) (care-blocks b p h ∙ sym (zero-add _))
+    ∙ bit-below (p .stars) 0 (2 ^ (b - p .stars) - 1) (b - k) (omega arith)
+    ∙ bit-high 0 0 (b - k) (omega arith) (omega arith)
 
 -- ---- the numbers that a prefix covers
 
