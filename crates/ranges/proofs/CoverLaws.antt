@@ -12,7 +12,7 @@ use lib.Dec.{eqb, leb}
 use borrow.Author.Tests.{le-leb, lt-leb, leb-true, leb-false}
 use Rattle.words.proofs.Tests.{split as by, yes-eqb, true-and, and-true, eqb-yes, never-true, true-false}
 use Rattle.ranges.specs.Prefixes.{Prefix, prefix}
-use Rattle.ranges.specs.Ranges.{shifted, split, covering}
+use Rattle.ranges.specs.Ranges.{shifted, prefixesBy, covering}
 
 -- A range is all of the field.
 abbrev pub WholeField : (bits low end : ℕ) → Type 0
@@ -38,16 +38,16 @@ parts-length m left right = length-append left (map (shifted m) right) ∙ ap (�
 -- no number: no prefix
 pub cover-none : (b low end : ℕ) → end ≤ low → covering b low end ≡ []
 unfolding covering
-cover-none zero low end h = ap (λ (t : Bool). split t true (prefix 0 0) []) (le-leb _ _ h)
+cover-none zero low end h = ap (λ (t : Bool). prefixesBy t true (prefix 0 0) []) (le-leb _ _ h)
 cover-none (suc b) low end h =
-    ap (λ (t : Bool). split t (eqb low 0 && eqb end (2 ^ suc b)) (prefix (suc b) 0) (parts b low end)) (le-leb _ _ h)
+    ap (λ (t : Bool). prefixesBy t (eqb low 0 && eqb end (2 ^ suc b)) (prefix (suc b) 0) (parts b low end)) (le-leb _ _ h)
 
 -- the whole field: one prefix of stars
 pub cover-whole : (b : ℕ) → covering b 0 (2 ^ b) ≡ prefix b 0 ∷ []
 unfolding covering
 cover-whole zero = refl
 cover-whole (suc b) =
-    ap₂ (λ (t u : Bool). split t u (prefix (suc b) 0) (parts b 0 (2 ^ suc b))) (lt-leb _ _ (pow-pos (suc b)))
+    ap₂ (λ (t u : Bool). prefixesBy t u (prefix (suc b) 0) (parts b 0 (2 ^ suc b))) (lt-leb _ _ (pow-pos (suc b)))
     (true-and (yes-eqb 0 0 refl) (yes-eqb (2 ^ suc b) (2 ^ suc b) refl))
 
 -- else the two halves
@@ -63,7 +63,7 @@ cover-parts b low end h = by (leb end low) none some
 
     some : leb end low ≡ false → covering (suc b) low end ≡ parts b low end
     some e =
-        ap₂ (λ (t u : Bool). split t u (prefix (suc b) 0) (parts b low end)) e
+        ap₂ (λ (t u : Bool). prefixesBy t u (prefix (suc b) 0) (parts b low end)) e
         (never-true (λ t. let w = and-true (eqb low 0) (eqb end (2 ^ suc b)) t in h (eqb-yes _ _ (w .0), eqb-yes _ _ (w .1))))
 
 -- ---- what holds in each of the three ways

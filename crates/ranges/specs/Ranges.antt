@@ -10,18 +10,18 @@ abbrev pub shifted : (n : ℕ) → Prefix → Prefix
 shifted n p = prefix (p .stars) (p .first + n)
 
 -- By two tests: no prefix, one prefix, or its parts.
-abbrev pub split : (none whole : Bool) → Prefix → (parts : List Prefix) → List Prefix
-split true w p ps = []
-split false true p ps = p ∷ []
-split false false p ps = ps
+abbrev pub prefixesBy : (none whole : Bool) → Prefix → (parts : List Prefix) → List Prefix
+prefixesBy true w p ps = []
+prefixesBy false true p ps = p ∷ []
+prefixesBy false false p ps = ps
 
 -- The prefixes of the numbers from low on and below end, in a field of so many bits. Where there is no such number, none. Where they are
--- the whole field, the one that is all stars. Else those of the left half of the field, whose numbers have no bit at weight 2^bits, and
--- then those of the right half, whose numbers have it.
+-- the whole field, the one that is all stars. Else those of the left half, the numbers whose first bit is 0, and then those of the right
+-- half, the numbers whose first bit is 1: each half is a field of one bit less, and 2^b is the first number of the right one.
 unfoldable pub covering : (bits low end : ℕ) → List Prefix
-covering zero low end = split (leb end low) true (prefix 0 0) []
+covering zero low end = prefixesBy (leb end low) true (prefix 0 0) []
 covering (suc b) low end =
-    split (leb end low) (eqb low 0 && eqb end (2 ^ suc b)) (prefix (suc b) 0)
+    prefixesBy (leb end low) (eqb low 0 && eqb end (2 ^ suc b)) (prefix (suc b) 0)
     (covering b low (min end (2 ^ b)) ++ map (shifted (2 ^ b)) (covering b (low - 2 ^ b) (end - 2 ^ b)))
 
 -- The prefixes of the numbers from low to high. That they cover these and no other number, each once, that they rise, that no list of
