@@ -32,7 +32,7 @@ pub matches-as-a-rule : (b n d : ℕ) (p : Prefix) → prefixMatches b p n ≡ m
 unfolding prefixMatches matches
 matches-as-a-rule b n d p = refl
 
--- And these two words, with any decision, are a rule of the field's width that passes its checks.
+-- And these two words, with any decision that is one, are a rule of the field's width, so that it passes its checks (`valid-rule` of rules).
 pub prefix-valid : (b d : ℕ) (p : Prefix) → PrefixIn b p → d < noMatch → Valid b (rule (careWord b p) (valueWord p) d)
 prefix-valid b d p v h =
     record {
@@ -51,7 +51,7 @@ below-next n high =
 in-range : (low high n : ℕ) → inRange low high n ≡ (leb low n && ltb n (high + 1))
 in-range low high n = ap (λ (t : Bool). leb low n && t) (below-next n high)
 
--- of two numbers, one of them 0 or 1: what both have where neither or both are 0
+-- two numbers that are both 0 or both not, the second at most 1: the first, cut at 1, is the second
 same-sign : (x y : ℕ) → y ≤ 1 → ltb 0 x ≡ ltb 0 y → min 1 x ≡ y
 same-sign x y h e =
     by (ltb 0 x)
