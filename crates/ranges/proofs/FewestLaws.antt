@@ -11,12 +11,12 @@ use lib.ListN.{length}
 use borrow.Author.Tests.{ltb-true, ltb-false}
 use Rattle.words.proofs.Tests.{split as by}
 use Rattle.rules.specs.Lists.{All, Pairs}
-use Rattle.rules.proofs.EntryLaws.{all-map}
+use Rattle.rules.proofs.EntryLaws.{all-map, pairs-front, pairs-back, pairs-before}
 use Rattle.ranges.specs.Prefixes.{Prefix, prefix, PrefixIn, Before}
 use Rattle.ranges.specs.Ranges.{shifted, covering}
 use Rattle.ranges.proofs.PrefixLaws.{inside, inside-yes, inside-early, inside-late, inside-facts, inside-left, inside-right, inside-up, spans, held, held-past, prefix-end, clear-before}
 use Rattle.ranges.proofs.StepLaws.{exponent}
-use Rattle.ranges.proofs.RangeLaws.{pairs-front, pairs-back, pairs-still}
+use Rattle.ranges.proofs.RangeLaws.{before-still}
 use Rattle.ranges.proofs.CoverLaws.{WholeField, parts-length, Fact, None, OfWhole, OfParts, every-range}
 
 -- A list covers exactly the numbers from low on and below the end, each once or more often.
@@ -26,10 +26,13 @@ Covers low end qs = (n : ℕ) → min 1 (held qs n) ≡ inside low end n
 abbrev Fewest : Fact
 Fewest b low end ps = (qs : List Prefix) → All (PrefixIn b) qs → Covers low end qs → length ps ≤ length qs
 
--- one number takes one prefix
-fewest-whole : OfWhole Fewest
+-- a field takes a prefix
+no-prefix : (b : ℕ) → Covers 0 (2 ^ b) [] → ⊥
 unfolding held
-fewest-whole b [] a c = absurd (omega (arith, c 0, inside-yes 0 (2 ^ b) 0 (omega arith) (pow-pos b)))
+no-prefix b c = omega (arith, c 0, inside-yes 0 (2 ^ b) 0 (omega arith) (pow-pos b))
+
+fewest-whole : OfWhole Fewest
+fewest-whole b [] a c = absurd (no-prefix b c)
 fewest-whole b (q ∷ qs) a c = omega arith
 
 -- ---- prefixes of both halves
@@ -196,8 +199,7 @@ only-star b q v c =
     ap₂ prefix e z
 
 only-whole : OfWhole Only
-unfolding held
-only-whole b [] a c r s = absurd (omega (arith, c 0, inside-yes 0 (2 ^ b) 0 (omega arith) (pow-pos b)))
+only-whole b [] a c r s = absurd (no-prefix b c)
 only-whole b (q ∷ []) a c r s = ap (λ (p : Prefix). p ∷ []) (only-star b q (a .0) c)
 only-whole b (q ∷ p ∷ qs) a c r s = absurd (omega arith)
 
@@ -218,8 +220,8 @@ only-parts b low end left right w l h p q = (fewest-parts b low end left right w
         let fl : length left ≤ length (x .left) = p .0 (x .left) (x .lefts) cl in
         let fr : length right ≤ length (x .right) = q .0 (x .right) (x .rights) cr in
         let total : length (x .left) + length (x .right) ≤ length left + length right = omega (arith, s, x .size, parts-length (2 ^ b) left right) in
-        let el : x .left ≡ left = p .1 (x .left) (x .lefts) cl (pairs-front (x .left) _ rj) (omega (arith, fl, fr, total)) in
-        let er : x .right ≡ right = q .1 (x .right) (x .rights) cr (pairs-still (2 ^ b) (x .right) (pairs-back (x .left) _ rj)) (omega (arith, fl, fr, total)) in
+        let el : x .left ≡ left = p .1 (x .left) (x .lefts) cl (pairs-front Before (x .left) _ rj) (omega (arith, fl, fr, total)) in
+        let er : x .right ≡ right = q .1 (x .right) (x .rights) cr (pairs-before (shifted (2 ^ b)) Before Before (before-still (2 ^ b)) (x .right) (pairs-back Before (x .left) _ rj)) (omega (arith, fl, fr, total)) in
         j ∙ ap₂ (λ (xs ys : List Prefix). xs ++ map (shifted (2 ^ b)) ys) el er
 
 best : (b low end : ℕ) → end ≤ 2 ^ b → Best b low end (covering b low end)

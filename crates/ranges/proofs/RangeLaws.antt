@@ -1,6 +1,6 @@
 -- Laws of the prefixes of a range: they are prefixes of the field, cover each number of the range once and no other, and rise.
 use mathlib.Core.Path.{_≡_, ap, ap₂, _∙_}
-use mathlib.Core.List.{List, [], _∷_, _++_, map}
+use mathlib.Core.List.{List, map}
 use mathlib.Core.Bool.{true, false}
 use Prim.Native.Nat.{ℕ, suc, _+_, _-_, _^_, _≤_, _<_, min}
 use native.Mathlib.Omega.{arith}
@@ -10,7 +10,7 @@ use borrow.Author.Tests.{ltb-true, ltb-false}
 use Rattle.words.proofs.Tests.{split as by}
 use lib.Pow.{pow-pos}
 use Rattle.rules.specs.Lists.{All, Pairs}
-use Rattle.rules.proofs.EntryLaws.{all-map, all-append}
+use Rattle.rules.proofs.EntryLaws.{all-map, all-append, all-after, pairs-append, pairs-after}
 use Rattle.ranges.specs.Prefixes.{Prefix, PrefixIn, Before}
 use Rattle.ranges.specs.Ranges.{shifted, covering}
 use Rattle.ranges.proofs.PrefixLaws.{inside, inside-left, inside-right, inside-late, held, held-append, held-below, held-above, clear-after}
@@ -20,11 +20,6 @@ use Rattle.ranges.proofs.CoverLaws.{Fact, None, OfWhole, OfParts, every
 
 abbrev Fitting : Fact
 Fitting b low end ps = All (PrefixIn b) ps
-
--- what holds of each moved prefix
-all-moved : (P Q : Prefix → Type 0) (m : ℕ) → ((p : Prefix) → P p → Q (shifted m p)) → (ps : List Prefix) → All P ps → All Q (map (shifted m) ps)
-all-moved P Q m f [] a = tt
-all-moved P Q m f (p ∷ ps) a = (f p (a .0), all-moved P Q m f ps (a .1))
 
 -- a prefix of the left half, and one of the right half, is a prefix of the field
 fits-left : (b : ℕ) (p : Prefix) → PrefixIn b p → PrefixIn (suc b) p
@@ -43,7 +38,7 @@ pub range-fits : (b low end : ℕ) → end ≤ 2 ^ b → All (PrefixIn b) (cover
 range-fits =
     every-range Fitting (λ b low end h. tt)
     (λ b. (record { fits = omega arith; within = pow-pos b; clear = mod-eq-of-lt (pow-pos b) }, tt))
-    (λ b low end left right w l h p q. all-append (PrefixIn (suc b)) left _ (all-map _ _ (fits-left b) left p) (all-moved (PrefixIn b) _ (2 ^ b) (fits-right b) right q))
+    (λ b low end left right w l h p q. all-append (PrefixIn (suc b)) left _ (all-map _ _ (fits-left b) left p) (all-after (shifted (2 ^ b)) (PrefixIn b) _ (fits-right b) right q))
 
 -- ---- each number of the range once, and no other
 
@@ -85,43 +80,26 @@ Within low end p = (low ≤ p .first) × (p .first + 2 ^ p .stars ≤ end)
 abbrev Rising : Fact
 Rising b low end ps = Pairs Before ps × All (Within low end) ps
 
-pairs-moved : (m : ℕ) (ps : List Prefix) → Pairs Before ps → Pairs Before (map (shifted m) ps)
-pairs-moved m [] a = tt
-pairs-moved m (p ∷ ps) a = (all-moved (Before p) (Before (shifted m p)) m (λ q h. omega arith) ps (a .0), pairs-moved m ps (a .1))
+-- moved up, prefixes come one after the other as they did
+pub before-moved : (m : ℕ) (p q : Prefix) → Before p q → Before (shifted m p) (shifted m q)
+before-moved m p q h = omega arith
 
-pairs-append : (m : ℕ) (xs ys : List Prefix) → All (λ (p : Prefix). p .first + 2 ^ p .stars ≤ m) xs → All (λ (p : Prefix). m ≤ p .first) ys → Pairs Before xs → Pairs Before ys → Pairs Before (xs ++ ys)
-pairs-append m [] ys a b p q = q
-pairs-append m (x ∷ xs) ys a b p q =
-    (all-append (Before x) xs ys (p .0) (all-map (λ (y : Prefix). m ≤ y .first) (Before x) (λ y h. omega (arith, a .0)) ys b), pairs-append m xs ys (a .1) b (p .1) q)
+pub before-still : (m : ℕ) (p q : Prefix) → Before (shifted m p) (shifted m q) → Before p q
+before-still m p q h = omega arith
 
--- of a list of two parts that rises, each part rises
-all-front : (P : Prefix → Type 0) (xs ys : List Prefix) → All P (xs ++ ys) → All P xs
-all-front P [] ys a = tt
-all-front P (x ∷ xs) ys a = (a .0, all-front P xs ys (a .1))
-
-pub pairs-front : (xs ys : List Prefix) → Pairs Before (xs ++ ys) → Pairs Before xs
-pairs-front [] ys a = tt
-pairs-front (x ∷ xs) ys a = (all-front (Before x) xs ys (a .0), pairs-front xs ys (a .1))
-
-pub pairs-back : (xs ys : List Prefix) → Pairs Before (xs ++ ys) → Pairs Before ys
-pairs-back [] ys a = a
-pairs-back (x ∷ xs) ys a = pairs-back xs ys (a .1)
-
--- and so does a list before it was moved up
-all-still : (P Q : Prefix → Type 0) (m : ℕ) → ((p : Prefix) → Q (shifted m p) → P p) → (ps : List Prefix) → All Q (map (shifted m) ps) → All P ps
-all-still P Q m f [] a = tt
-all-still P Q m f (p ∷ ps) a = (f p (a .0), all-still P Q m f ps (a .1))
-
-pub pairs-still : (m : ℕ) (ps : List Prefix) → Pairs Before (map (shifted m) ps) → Pairs Before ps
-pairs-still m [] a = tt
-pairs-still m (p ∷ ps) a = (all-still (Before p) (Before (shifted m p)) m (λ q h. omega arith) ps (a .0), pairs-still m ps (a .1))
+-- prefixes below m come before prefixes from m on
+below-above : (m : ℕ) (xs ys : List Prefix) → All (λ (p : Prefix). p .first + 2 ^ p .stars ≤ m) xs → All (λ (p : Prefix). m ≤ p .first) ys
+    → All (λ (x : Prefix). All (Before x) ys) xs
+below-above m xs ys a b =
+    all-map _ (λ (x : Prefix). All (Before x) ys) (λ x l. all-map (λ (y : Prefix). m ≤ y .first) (Before x) (λ y h. omega arith) ys b) xs a
 
 rising-whole : OfWhole Rising
 rising-whole b = ((tt, tt), ((omega arith, omega arith), tt))
 
 rising-parts : OfParts Rising
 rising-parts b low end left right w l h p q = (
-  pairs-append (2 ^ b) left moved (all-map _ _ (λ x s. omega (arith, s .1)) left (p .1)) (all-map _ _ (λ x s. s .0) moved up) (p .0) (pairs-moved (2 ^ b) right (q .0)),
+  pairs-append Before left moved (p .0) (pairs-after (shifted (2 ^ b)) Before Before (before-moved (2 ^ b)) right (q .0))
+      (below-above (2 ^ b) left moved (all-map _ _ (λ x s. omega (arith, s .1)) left (p .1)) (all-map _ _ (λ x s. s .0) moved up)),
   all-append _ left moved (all-map _ _ (λ x s. (s .0, omega (arith, s .1))) left (p .1)) (all-map _ _ (λ x s. s .1) moved up),
 )
   where
@@ -129,7 +107,7 @@ rising-parts b low end left right w l h p q = (
     moved = map (shifted (2 ^ b)) right
 
     up : All (λ (x : Prefix). (2 ^ b ≤ x .first) × Within low end x) moved
-    up = all-moved (Within (low - 2 ^ b) (end - 2 ^ b)) _ (2 ^ b) (λ x s. let t : 0 < 2 ^ x .stars = pow-pos (x .stars) in (omega arith, (omega (arith, s .0), omega (arith, s .1, t)))) right (q .1)
+    up = all-after (shifted (2 ^ b)) (Within (low - 2 ^ b) (end - 2 ^ b)) _ (λ x s. let t : 0 < 2 ^ x .stars = pow-pos (x .stars) in (omega arith, (omega (arith, s .0), omega (arith, s .1, t)))) right (q .1)
 
 pub range-rising : (b low end : ℕ) → end ≤ 2 ^ b → Pairs Before (covering b low end)
 range-rising b low end h = every-range Rising (λ b low end h. (tt, tt)) rising-whole rising-parts b low end h .0

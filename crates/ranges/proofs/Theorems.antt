@@ -11,21 +11,22 @@ use lib.ListN.{length, length-map, take, drop}
 use lib.Seq.{take-at, drop-at}
 use borrow.Author.Tests.{leb-true, ltb-true, ltb-false, le-leb, lt-ltb}
 use Rattle.words.proofs.Tests.{split as by, same-test}
+use Rattle.rules.specs.declared.Refusal.{Refusal}
 use Rattle.rules.specs.Rules.{rule, choose, matches, noMatch, Valid}
 use Rattle.rules.specs.Lists.{All, Pairs}
 use Rattle.rules.specs.Replies.{Reply, Gives, Refuses, passed, need, _then_, unlessRefused}
 use Rattle.rules.specs.Checks.{roomCheck}
-use Rattle.rules.proofs.ReplyLaws.{gives-refuses, then-next, then-second, one-value}
+use Rattle.rules.proofs.ReplyLaws.{gives-refuses, then-next, then-refuses, then-second, bare-first, one-value}
 use Rattle.rules.proofs.CheckLaws.{room-yes}
 use Rattle.ranges.specs.declared.Covered.{Covered}
 use Rattle.ranges.specs.Prefixes.{Prefix, PrefixIn, careWord, valueWord, prefixMatches, matching, inRange, CoversExactly, Before}
 use Rattle.ranges.specs.Ranges.{covering, rangePrefixes}
-use Rattle.ranges.specs.Calls.{widestField, fieldCheck, boundsCheck, checkRange, sameLengthCheck, prefixesCheck, prefixesReply, wordsPut, PrefixesDone}
+use Rattle.ranges.specs.Calls.{coveredReply, widestField, fieldCheck, boundsCheck, checkRange, sameLengthCheck, prefixCountReply, prefixesCheck, prefixesReply, wordsPut, PrefixesDone}
 use Rattle.ranges.proofs.PrefixLaws.{blocks, under-care, care-fits, inside, inside-choose, inside-exactly, inside-late, held-past, matching-held, held}
 use Rattle.ranges.proofs.RangeLaws.{range-fits, range-once, range-rising}
 use Rattle.ranges.proofs.FewLaws.{range-few, all-but-both}
 use Rattle.ranges.proofs.FewestLaws.{Covers, range-least, range-alone}
-use Rattle.ranges.proofs.CallLaws.{bare-range, ranged, check-prefixes}
+use Rattle.ranges.proofs.CallLaws.{bare-range, ranged, check-room, check-prefixes}
 
 -- A number matches a prefix exactly where, as a header, it matches a rule with the prefix's two words.
 pub matches-as-a-rule : (b n d : ℕ) (p : Prefix) → prefixMatches b p n ≡ matches (rule (careWord b p) (valueWord p) d) n
@@ -75,31 +76,32 @@ module _ (b low high : ℕ) (h : high < 2 ^ b) where
   pub range-fit : All (PrefixIn b) (rangePrefixes b low high)
   range-fit = range-fits b low (high + 1) ends
 
+  counted : (n : ℕ) → n < 2 ^ b → matching b (rangePrefixes b low high) n ≡ inside low (high + 1) n
+  counted n l = matching-held b n _ range-fit l ∙ range-once b low (high + 1) ends n
+
   -- A number of the field that lies in the range matches one of them and no other; one that does not matches none.
   pub range-exactly : (n : ℕ) → n < 2 ^ b → matching b (rangePrefixes b low high) n ≡ choose (inRange low high n) 1 0
-  range-exactly n l =
-      matching-held b n _ range-fit l
-      ∙ range-once b low (high + 1) ends n
-      ∙ sym (inside-choose low (high + 1) n)
-      ∙ ap (λ (t : Bool). choose t 1 0) (sym (in-range low high n))
+  range-exactly n l = counted n l ∙ sym (inside-choose low (high + 1) n) ∙ ap (λ (t : Bool). choose t 1 0) (sym (in-range low high n))
 
   -- So they cover the range exactly.
   pub range-covers : CoversExactly b low high (rangePrefixes b low high)
-  range-covers n l =
-      ap (ltb 0) (matching-held b n _ range-fit l ∙ range-once b low (high + 1) ends n) ∙ inside-exactly low (high + 1) n ∙ sym (in-range low high n)
+  range-covers n l = ap (ltb 0) (counted n l) ∙ inside-exactly low (high + 1) n ∙ sym (in-range low high n)
 
   -- They rise, and no two overlap: each ends before the next starts.
   pub range-rises : Pairs Before (rangePrefixes b low high)
   range-rises = range-rising b low (high + 1) ends
 
+  any-covers : (ps : List Prefix) → All (PrefixIn b) ps → CoversExactly b low high ps → Covers low (high + 1) ps
+  any-covers ps a c = covers-all b low (high + 1) ps ends a (λ n l. c n l ∙ in-range low high n)
+
   -- No list of prefixes of the field that covers the range exactly, whether they overlap or not, has fewer.
   pub range-fewest : (ps : List Prefix) → All (PrefixIn b) ps → CoversExactly b low high ps → length (rangePrefixes b low high) ≤ length ps
-  range-fewest ps a c = range-least b low (high + 1) ends ps a (covers-all b low (high + 1) ps ends a (λ n l. c n l ∙ in-range low high n))
+  range-fewest ps a c = range-least b low (high + 1) ends ps a (any-covers ps a c)
 
   -- And no other list does it that rises and has no more: what was asked for has one answer.
   pub range-only : (ps : List Prefix) → All (PrefixIn b) ps → CoversExactly b low high ps → Pairs Before ps → length ps ≤ length (rangePrefixes b low high)
       → ps ≡ rangePrefixes b low high
-  range-only ps a c r s = range-alone b low (high + 1) ends ps a (covers-all b low (high + 1) ps ends a (λ n l. c n l ∙ in-range low high n)) r s
+  range-only ps a c r s = range-alone b low (high + 1) ends ps a (any-covers ps a c) r s
 
   -- There are never more than 2 * bits - 2 of them, and in a field of one bit never more than one.
   pub range-at-most : length (rangePrefixes b low high) ≤ max 1 (b * 2 - 2)
@@ -155,6 +157,37 @@ never-seven b low high cs vs room = nor-next (prefixesCheck b low high cs vs) _ 
         let p = ranged b low high (bare-range b low high (g .0) (g .1)) .within in
         nor-next (sameLengthCheck cs vs) _ (other-number (eqb (length cs) (length vs)) 2 0 0 (λ e. omega arith))
         (λ s. room-not-seven _ _ (omega (arith, room, range-at-most b low high p))))
+
+-- so of the call: a refusal that it gives is another one
+pub call-never-seven : (b low high : ℕ) (cs vs cs′ vs′ : List ℕ) (x : Refusal) → PrefixesDone b low high cs vs cs′ vs′ (Covered.Refused x)
+    → max 1 (b * 2 - 2) ≤ length cs → x .number ≡ 7 → ⊥
+call-never-seven b low high cs vs cs′ vs′ x d room e =
+    never-seven b low high cs vs room (x .list) (x .rule) (sym (d .reply) ∙ ap (λ (n : ℕ). Refuses n (x .list) (x .rule)) e)
+
+-- ---- the number first, and then the prefixes
+
+-- What `range_prefix_count` answers is the number of the range's prefixes.
+pub count-told : (b low high n : ℕ) → coveredReply (Covered.Prefixes n) ≡ prefixCountReply b low high → (checkRange b low high ≡ passed) × (n ≡ length (rangePrefixes b low high))
+unfolding prefixCountReply
+count-told b low high n e = (
+  bare-first (checkRange b low high) _ (bare-range b low high) (n ∷ []) (sym e),
+  sym (one-value (then-second (checkRange b low high) _ (n ∷ []) (sym e))),
+)
+
+-- With so many places in both slices `range_prefixes` answers the same number, and with fewer it is refused 7.
+pub counted-answered : (b low high n : ℕ) (cs vs : List ℕ) → coveredReply (Covered.Prefixes n) ≡ prefixCountReply b low high
+    → length cs ≡ length vs → n ≤ length cs → prefixesReply b low high cs vs ≡ Gives (n ∷ [])
+unfolding prefixesReply
+counted-answered b low high n cs vs e s r =
+    let t = count-told b low high n e in
+    then-next _ _ (check-prefixes b low high cs vs (t .0) s (omega (arith, r, t .1))) ∙ ap (λ (k : ℕ). Gives (k ∷ [])) (sym (t .1))
+
+pub counted-refused : (b low high n : ℕ) (cs vs : List ℕ) → coveredReply (Covered.Prefixes n) ≡ prefixCountReply b low high
+    → length cs ≡ length vs → length cs < n → prefixesReply b low high cs vs ≡ Refuses 7 0 0
+unfolding prefixesReply
+counted-refused b low high n cs vs e s r =
+    let t = count-told b low high n e in
+    then-refuses _ _ (check-room b low high cs vs (t .0) s (omega (arith, r, t .1)))
 
 -- ---- what an answered call leaves
 

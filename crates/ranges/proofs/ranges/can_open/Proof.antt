@@ -2,6 +2,7 @@ use Prim.Native.Nat.{_≤_, _^_}
 use native.Mathlib.Omega.{arith}
 use lib.Pow.{pow-pos, pow-mono}
 use borrow.Author.Needs.{needs}
+use Rattle.ranges.specs.Calls.{widestField}
 use Rattle.ranges.proofs.StepLaws.{open-ends, open-between}
 use Rattle.ranges.proofs.ranges.can_open.Statement.{statement}
 use Rattle.ranges.proofs.ranges.can_open.Tie as tie
@@ -18,7 +19,7 @@ rem-if1 c = omega (arith, c .power .ensures, pow-pos (c .before .args .stars))
 add-result : tie.Need-add-result
 add-result c =
     let s = c .before .before in
-    let few : 2 ^ s .args .stars ≤ 2 ^ 16 = pow-mono (s .pre .2) in
+    let few : 2 ^ s .args .stars ≤ 2 ^ widestField = pow-mono (s .pre .2) in
     omega (arith, c .before .power .ensures, few, s .pre .0, s .pre .1)
 
 returns : tie.Need-returns

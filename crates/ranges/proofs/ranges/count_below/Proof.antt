@@ -3,6 +3,7 @@ use Prim.Native.Nat.{ℕ, _+_, _-_, _≤_, _^_}
 use native.Mathlib.Omega.{arith}
 use lib.ListN.{length}
 use lib.Pow.{pow-pos, pow-mono}
+use Rattle.ranges.specs.Calls.{widestField}
 use Rattle.ranges.specs.Ranges.{covering}
 use Rattle.ranges.proofs.CoverLaws.{cover-none}
 use Rattle.ranges.proofs.FewLaws.{range-few}
@@ -32,7 +33,7 @@ power-requires c κs = let s = c .before .before .before in omega (arith, s .pre
 add-at : tie.Need-add-at Inv-loop μ-loop
 add-at c =
     let s = c .before .before .before .before in
-    let most : 2 ^ s .args .bits ≤ 2 ^ 16 = pow-mono (s .pre .0) in
+    let most : 2 ^ s .args .bits ≤ 2 ^ widestField = pow-mono (s .pre .0) in
     omega (arith, most, s .pre .1, c .power .ensures, widest-fits _ _ _ _ (s .pre .1) (c .before .stars-at .ensures) .1)
 
 add-n : tie.Need-add-n Inv-loop μ-loop

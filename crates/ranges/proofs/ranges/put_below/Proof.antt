@@ -1,9 +1,10 @@
 use mathlib.Core.Path.{_≡_, refl, ap₂}
-use Prim.Native.Nat.{ℕ, _+_, _-_, _≤_, _<_, _^_}
+use Prim.Native.Nat.{ℕ, _+_, _-_, _*_, _≤_, _<_, _^_}
 use native.Mathlib.Omega.{arith}
 use lib.ListN.{length}
 use lib.Pow.{pow-pos, pow-mono}
 use borrow.Author.Needs.{needs}
+use Rattle.ranges.specs.Calls.{widestField}
 use Rattle.ranges.specs.Prefixes.{prefix, careWord}
 use Rattle.ranges.specs.Ranges.{covering}
 use Rattle.ranges.proofs.FewLaws.{range-few}
@@ -30,16 +31,16 @@ left c =
     let o = c .before .before .before .loop in
     omega (arith, putting-count _ _ _ _ _ _ _ _ _ (o .inv .2), widest-count (s .args .bits) (o .at) (s .args .end) _ (s .pre .0 .1) (c .before .stars-at .ensures))
 
-few : (c : tie.After-power2 Inv-loop μ-loop) → c .before .before .before .loop .n < 30
+few : (c : tie.After-power2 Inv-loop μ-loop) → c .before .before .before .loop .n < widestField * 2
 few c =
     let s = c .before .before .before .before .before .before .before in
     omega (arith, left c, s .pre .0 .0, range-few (s .args .bits) (s .args .low) (s .args .end) (s .pre .0 .1))
 
 -- the next prefix ends in the field
-ends : (c : tie.After-power2 Inv-loop μ-loop) → c .before .before .before .loop .at + c .power2 .result ≤ 2 ^ 16
+ends : (c : tie.After-power2 Inv-loop μ-loop) → c .before .before .before .loop .at + c .power2 .result ≤ 2 ^ widestField
 ends c =
     let s = c .before .before .before .before .before .before .before in
-    let most : 2 ^ s .args .bits ≤ 2 ^ 16 = pow-mono (s .pre .0 .0) in
+    let most : 2 ^ s .args .bits ≤ 2 ^ widestField = pow-mono (s .pre .0 .0) in
     omega (arith, most, s .pre .0 .1, c .power2 .ensures, widest-fits _ _ _ _ (s .pre .0 .1) (c .before .stars-at .ensures) .1)
 
 some : (c : tie.After-power2 Inv-loop μ-loop) → 0 < c .power2 .result
@@ -75,7 +76,7 @@ sub-care c =
 cast-care : tie.Need-cast-care Inv-loop μ-loop
 cast-care c =
     let s = c .before .before .before .before .before .before .before in
-    let most : 2 ^ s .args .bits ≤ 2 ^ 16 = pow-mono (s .pre .0 .0) in
+    let most : 2 ^ s .args .bits ≤ 2 ^ widestField = pow-mono (s .pre .0 .0) in
     omega (arith, most, some c, ends c, c .before .before .before .before .power .ensures)
 
 mul-care : tie.Need-mul-care Inv-loop μ-loop

@@ -5,6 +5,7 @@ use native.Mathlib.Omega.{arith}
 use lib.Pow.{pow-mono}
 use borrow.Author.Needs.{needs}
 use borrow.Author.Tests.{not-true, not-false}
+use Rattle.ranges.specs.Calls.{widestField}
 use Rattle.ranges.specs.Inner.{opens}
 use Rattle.ranges.proofs.StepLaws.{open-none, widest-here, widest-last}
 use Rattle.ranges.proofs.ranges.stars_at.Statement.{statement}
@@ -28,7 +29,7 @@ add-can-open c = search needs
 can-open-requires : tie.Need-can-open-requires Inv-loop μ-loop
 can-open-requires c κs =
     let s = c .before .before in
-    let most : 2 ^ s .args .bits ≤ 2 ^ 16 = pow-mono (s .pre .0) in
+    let most : 2 ^ s .args .bits ≤ 2 ^ widestField = pow-mono (s .pre .0) in
     (s .pre .1, omega (arith, most, s .pre .2), omega (arith, s .pre .0, c .loop-test .taken))
 
 returns : tie.Need-returns Inv-loop μ-loop
