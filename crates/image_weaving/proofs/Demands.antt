@@ -14,7 +14,7 @@ use Rattle.rules.specs.declared.Refusal.{Refusal}
 use Rattle.rules.specs.Lists.{All}
 use Rattle.rules.specs.Rule.{Rule}
 use Rattle.rules.specs.Rules.{answer}
-use Rattle.rules.specs.Slices.{caresOf, valuesOf, decisionsOf}
+use Rattle.rules.specs.Slices.{caresOf, valuesOf, decisionsOf, filled}
 use Rattle.rules.specs.Replies.{Reply, Gives, passed, need, _then_, unlessRefused}
 use Rattle.rules.specs.Checks.{roomCheck}
 use Rattle.rules.specs.Calls.{checkList, lookedUp, decided}
@@ -34,7 +34,7 @@ use Rattle.image_check.specs.Checks.{imageCheck}
 use Rattle.image_check.proofs.BareLaws.{bare-image}
 use Rattle.image.specs.declared.NumberAnswer.{NumberAnswer}
 use Rattle.image.specs.Places.{placeIn, placeOf, listWith}
-use Rattle.image.specs.Calls.{idCheck, filled}
+use Rattle.image.specs.Calls.{idCheck}
 use Rattle.image.proofs.PassedLaws.{list-facts}
 use Rattle.image.proofs.ReadLaws.{list-passes, bare-id, id-image}
 use Rattle.image.proofs.FullLaws.{HasRules, no-list-empty, found-some}

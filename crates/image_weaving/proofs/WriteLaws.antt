@@ -9,7 +9,7 @@ use borrow.Author.Tests.{le-leb}
 use Rattle.rules.specs.declared.Refusal.{Refusal}
 use Rattle.rules.specs.declared.Verdict.{Verdict}
 use Rattle.rules.specs.Rule.{Rule}
-use Rattle.rules.specs.Slices.{rulesOf, Lent, caresOf, valuesOf, decisionsOf}
+use Rattle.rules.specs.Slices.{rulesOf, Lent, caresOf, valuesOf, decisionsOf, filled}
 use Rattle.rules.specs.Replies.{Reply, Gives, passed, _then_, refusalReply, verdictReply, unlessRefused}
 use Rattle.rules.specs.Checks.{roomCheck}
 use Rattle.rules.proofs.ReplyLaws.{then-next, then-stop, need-yes}
@@ -17,7 +17,6 @@ use Rattle.rules.proofs.SliceLaws.{rules-length}
 use Rattle.image_form.specs.Images.{Named, formatIn, widthIn, countIn, listsOf, bytesOf}
 use Rattle.image_check.specs.Checks.{listsCheck, imageCheck}
 use Rattle.image.specs.declared.NumberAnswer.{NumberAnswer}
-use Rattle.image.specs.Calls.{filled}
 use Rattle.image.proofs.BackLaws.{AreBytes, length-listsOf}
 use Rattle.image.proofs.SeekLaws.{image-facts}
 use Rattle.image_writer.specs.Writing.{sumOf, given, imageLength, namesCheck, shapeCheck, writeCheck, writeReply, Written}

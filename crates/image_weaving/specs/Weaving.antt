@@ -3,6 +3,7 @@ use mathlib.Core.Path.{_≡_}
 use Prim.Native.Nat.{ℕ}
 use mathlib.Core.List.{List, [], _∷_}
 use lib.ListN.{length}
+use Rattle.rules.specs.Slices.{filled}
 use Rattle.rules.specs.Replies.{Reply, Gives, _then_, unlessRefused}
 use Rattle.rules.specs.Checks.{roomCheck}
 use Rattle.weaving.specs.Weave.{weave, kept, dropped, merges}
@@ -10,7 +11,7 @@ use Rattle.image_form.specs.Images.{Named, named, formatIn, widthIn, listsOf, b
 use Rattle.image_check.specs.Checks.{imageCheck}
 use Rattle.image.specs.declared.NumberAnswer.{NumberAnswer}
 use Rattle.image.specs.Places.{listWith}
-use Rattle.image.specs.Calls.{idCheck, filled}
+use Rattle.image.specs.Calls.{idCheck}
 use Rattle.image.specs.Replies.{numberReply}
 
 -- Each list with its id, and its rules woven (01, Weaving).

@@ -6,7 +6,7 @@ use native.Mathlib.Omega.{arith}
 use lib.ListN.{length, take, drop, drop-of-length-le}
 use lib.Seq.{drop-cons, drop-length}
 use Rattle.rules.specs.Rule.{Rule}
-use Rattle.rules.specs.Slices.{Lent, decisionOf, caresOf, valuesOf, decisionsOf}
+use Rattle.rules.specs.Slices.{Lent, decisionOf, caresOf, valuesOf, decisionsOf, filled}
 use Rattle.rules.specs.Replies.{Gives, passed, unlessRefused}
 use Rattle.rules.specs.Checks.{lengthsCheck}
 use Rattle.rules.proofs.ReplyLaws.{then-next, one-value, bare-first}
@@ -17,7 +17,7 @@ use Rattle.image_form.specs.Images.{Named, named, formatIn, widthIn, countIn, l
 use Rattle.image_check.specs.Checks.{imageCheck}
 use Rattle.image.specs.Places.{listWith}
 use Rattle.image.specs.Replies.{numberReply, listedReply}
-use Rattle.image.specs.Calls.{formatReply, widthReply, countReply, entryReply, readReply, ReadOut, filled}
+use Rattle.image.specs.Calls.{formatReply, widthReply, countReply, entryReply, readReply, ReadOut}
 use Rattle.image_check.proofs.BareLaws.{bare-image}
 use Rattle.image.proofs.AskLaws.{entry-range}
 use Rattle.image.proofs.BackLaws.{AreBytes, length-listsOf}

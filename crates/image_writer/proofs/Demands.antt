@@ -9,7 +9,7 @@ use lib.ListN.{length, getD, take, drop, length-append, length-drop}
 use lib.Seq.{take-at, drop-at}
 use Rattle.words.proofs.SliceLaws.{Machine}
 use Rattle.rules.specs.Rule.{Rule}
-use Rattle.rules.specs.Slices.{rulesOf, Lent, caresOf, valuesOf, decisionsOf}
+use Rattle.rules.specs.Slices.{rulesOf, Lent, caresOf, valuesOf, decisionsOf, filled}
 use Rattle.rules.specs.Replies.{Reply, Gives, passed, need, _then_, unlessRefused}
 use Rattle.rules.specs.Checks.{lengthsCheck, roomCheck}
 use Rattle.rules.proofs.ReplyLaws.{then-next, then-second, one-value, Bare, bare-need, bare-then, bare-first}
@@ -18,7 +18,7 @@ use Rattle.image.specs.declared.NumberAnswer.{NumberAnswer}
 use Rattle.image_form.specs.Formats.{formatCheck, rangeCheck}
 use Rattle.image_form.specs.Images.{Named, formatIn, widthIn, countIn, listsOf, bytesOf}
 use Rattle.image_check.specs.Checks.{listsCheck, imageCheck}
-use Rattle.image.specs.Calls.{formatReply, widthReply, countReply, entryReply, readReply, ReadOut, filled}
+use Rattle.image.specs.Calls.{formatReply, widthReply, countReply, entryReply, readReply, ReadOut}
 use Rattle.image.proofs.BackLaws.{AreBytes}
 use Rattle.image.proofs.Theorems.{rulesNamed}
 use Rattle.image.proofs.Unique.{one-number-answer}

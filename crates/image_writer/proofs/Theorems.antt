@@ -5,7 +5,7 @@ use mathlib.Core.Bool.{true}
 use Prim.Native.Nat.{ℕ, _≤_, _<_}
 use native.Mathlib.Omega.{arith}
 use lib.ListN.{length}
-use Rattle.rules.specs.Slices.{decisionOf, caresOf, valuesOf, decisionsOf}
+use Rattle.rules.specs.Slices.{decisionOf, caresOf, valuesOf, decisionsOf, filled}
 use Rattle.rules.specs.Lists.{All}
 use Rattle.rules.specs.Replies.{Reply, Gives, passed, unlessRefused}
 use Rattle.rules.proofs.ReplyLaws.{then-next}
@@ -17,7 +17,6 @@ use Rattle.image_check.specs.Checks.{imageCheck}
 use Rattle.image.specs.Places.{listWith}
 use Rattle.image.proofs.BackLaws.{AreBytes, read-write}
 use Rattle.image.proofs.Theorems.{rulesNamed, list-named}
-use Rattle.image.specs.Calls.{filled}
 use Rattle.image_writer.specs.Writing.{listsFrom, given, imageLength, writeCheck, writeReply, Written}
 use Rattle.image_writer.proofs.WriteLaws.{write-facts, facts-write}
 use Rattle.image_writer.proofs.AgainLaws.{Carried, carried-passes, carried-back}

@@ -13,7 +13,7 @@ use Rattle.rules.specs.declared.Refusal.{Refusal}
 use Rattle.rules.specs.declared.Verdict.{Verdict}
 use Rattle.rules.specs.Replies.{Reply, Gives, passed, need, _then_, verdictReply, refusalReply, unlessRefused}
 use Rattle.rules.specs.Checks.{roomCheck}
-use Rattle.rules.specs.Slices.{rulesOf}
+use Rattle.rules.specs.Slices.{rulesOf, filled}
 use Rattle.rules.proofs.ReplyLaws.{fine-next, refused-stop, need-then, then-second, bare-first}
 use Rattle.rules.proofs.SliceLaws.{rules-length}
 use Rattle.image.specs.declared.NumberAnswer.{NumberAnswer}
@@ -21,7 +21,6 @@ use Rattle.image_form.specs.Formats.{ruleSize}
 use Rattle.image_form.specs.declared.Entry.{Entry}
 use Rattle.image_form.specs.Images.{entryWith, entriesFor, ruleBytes, rulesBytes, bodiesBytes, contentsBytes, bytesOf}
 use Rattle.image_check.specs.Checks.{listsCheck}
-use Rattle.image.specs.Calls.{filled}
 use Rattle.image_writer.specs.Writing.{sumOf, listsFrom, given, namesCheck, imageLength, shapeCheck, writeCheck, writeReply, Written}
 use Rattle.image_writer.specs.Putting.{over, entriesGiven}
 use Rattle.image_check.proofs.BareLaws.{bare-lists}

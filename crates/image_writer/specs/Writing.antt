@@ -5,14 +5,13 @@ use mathlib.Core.List.{List, [], _∷_}
 use lib.ListN.{length, take, drop}
 use lib.Dec.{leb, eqb}
 use Rattle.rules.specs.Rule.{Rule}
-use Rattle.rules.specs.Slices.{rulesOf}
+use Rattle.rules.specs.Slices.{rulesOf, filled}
 use Rattle.rules.specs.Replies.{Reply, Gives, passed, need, _then_, unlessRefused}
 use Rattle.rules.specs.Checks.{lengthsCheck, roomCheck}
 use Rattle.image.specs.declared.NumberAnswer.{NumberAnswer}
 use Rattle.image_form.specs.Formats.{ruleSize, formatCheck, rangeCheck}
 use Rattle.image_form.specs.Images.{Named, named, bytesOf}
 use Rattle.image_check.specs.Checks.{countCheck, listsCheck}
-use Rattle.image.specs.Calls.{filled}
 use Rattle.image.specs.Replies.{numberReply}
 
 unfoldable pub sumOf : List ℕ → ℕ

@@ -1,7 +1,7 @@
 -- What the two public calls reply, and what stands in the lent slices afterwards (request 01).
 use mathlib.Core.Path.{_≡_}
 use mathlib.Core.List.{List, [], _∷_, _++_, map}
-use mathlib.Core.Bool.{_&&_}
+use mathlib.Core.Bool.{Bool, _&&_}
 use Prim.Native.Nat.{ℕ, _^_}
 use lib.Dec.{eqb, leb, ltb}
 use lib.ListN.{length, drop}
@@ -24,9 +24,13 @@ widestField = 16
 unfoldable pub fieldCheck : (bits : ℕ) → Reply
 fieldCheck b = need (leb 1 b && leb b widestField) 1 0 0
 
--- Refusal 20: low is above high, or high is no number of the field.
+-- Low is not above high, and high is a number of the field.
+abbrev pub isRange : (bits low high : ℕ) → Bool
+isRange b low high = leb low high && ltb high (2 ^ b)
+
+-- Refusal 20: it is no range.
 unfoldable pub boundsCheck : (bits low high : ℕ) → Reply
-boundsCheck b low high = need (leb low high && ltb high (2 ^ b)) 20 0 0
+boundsCheck b low high = need (isRange b low high) 20 0 0
 
 -- Refusal 2: the two result slices differ in length.
 unfoldable pub sameLengthCheck : (cares values : List ℕ) → Reply
