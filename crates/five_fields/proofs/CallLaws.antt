@@ -1,0 +1,116 @@
+-- Laws of the calls that write and that build: from what the inner functions leave to what is promised.
+use mathlib.Core.Path.{_≡_, sym, ap, _∙_}
+use mathlib.Core.List.{List, [], _∷_}
+use mathlib.Core.Bool.{Bool, true, false}
+use Prim.Native.Nat.{ℕ, _*_, _≤_, _<_}
+use native.Mathlib.Omega.{arith}
+use lib.Dec.{leb}
+use lib.ListN.{length}
+use borrow.Author.Tests.{leb-true}
+use Rattle.words.specs.Halves.{halves}
+use Rattle.rules.specs.declared.Refusal.{Refusal}
+use Rattle.rules.specs.Replies.{Reply, Gives, Refuses, passed, _then_, refusal, refusalReply}
+use Rattle.rules.specs.Checks.{sizeCheck, lengthsCheck, roomCheck}
+use Rattle.rules.proofs.ReplyLaws.{then-next, then-refuses, then-stop, then-second, one-value, gives-refuses, bare-first, Bare, bare-then, bare-need, need-yes, need-no, need-passed, same-refused, same-given}
+use Rattle.rules.proofs.CheckLaws.{results-two-values, results-two-decisions, results-seven, results-fine}
+use Rattle.five_fields.specs.declared.Expanded.{Expanded}
+use Rattle.five_fields.specs.declared.Built.{Built}
+use Rattle.five_fields.specs.Numbers.{Numbers}
+use Rattle.five_fields.specs.Fields.{headerOf, inFields}
+use Rattle.five_fields.specs.Slices.{Slices, rulesIn}
+use Rattle.five_fields.specs.Expansion.{expanded}
+use Rattle.five_fields.specs.Calls.{expandedReply, builtAnswer, rulesCheck, sourceCheck, countReply, expandCheck, expandReply, ExpandDone, headerReply}
+use Rattle.five_fields.proofs.CheckLaws.{bare-slices}
+use Rattle.five_fields.proofs.PutLaws.{Laid}
+
+-- ---- what a count says
+
+module _ (s : Slices) where
+  abbrev pub entryCount : ℕ
+  entryCount = length (expanded (rulesIn s))
+
+  -- checks give no values
+  pub bare-source : Bare (sourceCheck s)
+  unfolding sourceCheck sizeCheck
+  bare-source = bare-then (rulesCheck s) _ (bare-need (leb entryCount 1024) 3 1 0)
+
+  -- what rules that pass are, and how many entries they become
+  pub source-rules : sourceCheck s ≡ passed → (rulesCheck s ≡ passed) × (entryCount ≤ 1024)
+  unfolding sourceCheck sizeCheck
+  source-rules e =
+      (bare-first (rulesCheck s) _ (bare-slices s) [] e, leb-true _ _ (need-passed _ 3 1 0 (then-second (rulesCheck s) _ [] e)))
+
+  -- What `expansion_count` answers is the number of entries, of rules that pass.
+  pub counted : (n : ℕ) → Gives (n ∷ []) ≡ countReply s → (sourceCheck s ≡ passed) × (n ≡ entryCount)
+  unfolding countReply
+  counted n e = (bare-first (sourceCheck s) _ bare-source (n ∷ []) (sym e), sym (one-value (then-second (sourceCheck s) _ (n ∷ []) (sym e))))
+
+  -- the rules are good, and there are so many entries
+  pub counted-ready : (n : ℕ) (a : Expanded) → expandedReply a ≡ countReply s → a ≡ Expanded.Entries n → (rulesCheck s ≡ passed) × (n ≡ entryCount)
+  counted-ready n a e f = let c = counted n (sym (ap expandedReply f) ∙ e) in (source-rules (c .0) .0, c .1)
+
+  -- and where it is refused, that is the refusal of the rules
+  pub not-counted : (x : Refusal) → refusalReply x ≡ countReply s → sourceCheck s ≡ refusalReply x
+  unfolding countReply
+  not-counted x e = go (sourceCheck s) e
+    where
+      go : (a : Reply) → refusalReply x ≡ (a then Gives (entryCount ∷ [])) → a ≡ refusalReply x
+      go (Gives ns) f = absurd (gives-refuses (sym f))
+      go (Refuses n l r) f = sym f
+
+-- ---- the call that writes
+
+module _ (s : Slices) (cs vs ds : List ℕ) where
+  -- a refused call changes nothing
+  refused-as : (r : Expanded) (x : Refusal) → expandedReply r ≡ refusalReply x → expandCheck s cs vs ds ≡ refusalReply x → ExpandDone s cs vs ds cs vs ds r
+  unfolding expandReply
+  refused-as r x e f =
+      let all = then-stop _ (Gives (entryCount s ∷ [])) x f in
+      record { reply = e ∙ sym all; cares = same-refused _ x _ cs all; values = same-refused _ x _ vs all; decisions = same-refused _ x _ ds all }
+
+  -- the refusal of the rules
+  pub expand-refused : (r : Expanded) {x : Refusal} → expandedReply r ≡ countReply s → r ≡ Expanded.Refused x → ExpandDone s cs vs ds cs vs ds r
+  unfolding expandCheck
+  expand-refused r {x} e f = refused-as r x (ap expandedReply f) (then-stop _ _ x (not-counted s x (sym (ap expandedReply f) ∙ e)))
+
+  module _ (n : ℕ) (a : Expanded) (asked : expandedReply a ≡ countReply s) (said : a ≡ Expanded.Entries n) where
+    count : (sourceCheck s ≡ passed) × (n ≡ entryCount s)
+    count = counted s n (sym (ap expandedReply said) ∙ asked)
+
+    rest : {b : Reply} → (lengthsCheck cs vs ds then roomCheck (entryCount s) (length ds)) ≡ b → expandCheck s cs vs ds ≡ b
+    unfolding expandCheck
+    rest e = then-next _ _ (count .0) ∙ e
+
+    -- the refusals of the result slices
+    pub expand-values : (r : Expanded) → expandedReply r ≡ Refuses 2 0 0 → (length cs ≡ length vs → ⊥) → ExpandDone s cs vs ds cs vs ds r
+    expand-values r e h = refused-as r (refusal 2 0 0) e (rest (results-two-values (entryCount s) cs vs ds h))
+
+    pub expand-decisions : (r : Expanded) → expandedReply r ≡ Refuses 2 0 0 → length cs ≡ length vs → (length cs ≡ length ds * 2 → ⊥) → ExpandDone s cs vs ds cs vs ds r
+    expand-decisions r e p h = refused-as r (refusal 2 0 0) e (rest (results-two-decisions (entryCount s) cs vs ds p h))
+
+    pub expand-room : (r : Expanded) → expandedReply r ≡ Refuses 7 0 0 → length cs ≡ length vs → length cs ≡ length ds * 2 → length ds < n → ExpandDone s cs vs ds cs vs ds r
+    expand-room r e p q h = refused-as r (refusal 7 0 0) e (rest (results-seven (entryCount s) cs vs ds p q (omega (arith, h, count .1))))
+
+    -- the entries
+    pub expand-given : (cs′ vs′ ds′ : List ℕ) → length cs ≡ length vs → length cs ≡ length ds * 2 → n ≤ length ds → Laid (expanded (rulesIn s)) cs vs ds cs′ vs′ ds′
+        → ExpandDone s cs vs ds cs′ vs′ ds′ (Expanded.Entries n)
+    unfolding expandReply
+    expand-given cs′ vs′ ds′ e f h l =
+        let fine : expandCheck s cs vs ds ≡ passed = rest (results-fine (entryCount s) cs vs ds e f (omega (arith, h, count .1))) in
+        let all = then-next _ (Gives (entryCount s ∷ [])) fine in
+        record {
+          reply = ap (λ (k : ℕ). Gives (k ∷ [])) (count .1) ∙ sym all;
+          cares = l .cares ∙ same-given _ _ _ cs all;
+          values = l .values ∙ same-given _ _ _ vs all;
+          decisions = l .decisions ∙ same-given _ _ _ ds all;
+        }
+
+-- ---- the call that builds
+
+pub built : (n : Numbers) → inFields n ≡ true → Built.Header (record { 0 = halves (headerOf n) }) ≡ builtAnswer (headerReply n)
+unfolding headerReply
+built n e = sym (ap builtAnswer (then-next _ _ (need-yes _ 6 0 0 e)))
+
+pub not-built : (n : Numbers) → inFields n ≡ false → Built.Refused (record { number = 6; list = 0; rule = 0 }) ≡ builtAnswer (headerReply n)
+unfolding headerReply
+not-built n e = sym (ap builtAnswer (then-refuses _ _ (need-no _ 6 0 0 e)))
