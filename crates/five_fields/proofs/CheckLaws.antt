@@ -1,9 +1,9 @@
 -- Laws of the checks of five-field rules: each refusal in turn, and what a list that passed is.
-use mathlib.Core.Path.{_≡_, refl, sym, ap, ap₂, _∙_}
+use mathlib.Core.Path.{_≡_, refl, sym, ap, _∙_}
 use mathlib.Core.Logic.{_↔_, _≢_}
 use mathlib.Core.List.{List, [], _∷_, _++_}
 use mathlib.Core.Bool.{Bool, true, false, _&&_, and-assoc}
-use Prim.Native.Nat.{ℕ, _+_, _*_, _-_, _%_, _^_, _≤_, _<_}
+use Prim.Native.Nat.{ℕ, _+_, _-_, _%_, _^_, _≤_, _<_}
 use native.Mathlib.Omega.{arith}
 use lib.Dec.{eqb, leb, ltb}
 use lib.ListN.{length}
@@ -13,7 +13,7 @@ use Rattle.rules.specs.declared.Refusal.{Refusal}
 use Rattle.rules.specs.declared.Verdict.{Verdict}
 use Rattle.rules.specs.Rules.{noMatch}
 use Rattle.rules.specs.Lists.{All}
-use Rattle.rules.specs.Replies.{Reply, Gives, Refuses, passed, need, _then_, verdictReply}
+use Rattle.rules.specs.Replies.{Reply, Refuses, passed, need, _then_, verdictReply}
 use Rattle.rules.specs.Checks.{sizeCheck}
 use Rattle.rules.proofs.ReplyLaws.{then-next, then-refuses, then-second, need-yes, need-no, need-passed, need-then, fine-next, verdict-stop, Bare, bare-first, bare-need, bare-then}
 use Rattle.ranges.specs.Prefixes.{PrefixIn}
@@ -22,7 +22,7 @@ use Rattle.five_fields.specs.FiveFieldRule.{FiveFieldRule}
 use Rattle.five_fields.specs.Fields.{addressBits, portBits, protocolBits}
 use Rattle.five_fields.specs.FiveFieldRules.{anyProtocol, isPrefix, fieldsFit, portsFit}
 use Rattle.five_fields.specs.Slices.{Slices, rows, each, alike, ruleAt, rulesFrom, rulesIn}
-use Rattle.five_fields.specs.Expansion.{addressPrefix, protocolBy, protocolPrefix}
+use Rattle.five_fields.specs.Expansion.{addressPrefix, protocolPrefix}
 use Rattle.five_fields.specs.Inner.{Bounded}
 use Rattle.five_fields.specs.Calls.{fiveFieldCheck, fiveFieldsCheck, rulesCheck}
 use Rattle.five_fields.proofs.ListLaws.{rules-next, rules-none, rules-at}

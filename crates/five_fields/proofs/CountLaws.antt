@@ -1,19 +1,16 @@
 -- Laws of how many entries rules become.
-use mathlib.Core.Path.{_≡_, refl, sym, ap, _∙_, subst}
+use mathlib.Core.Path.{_≡_, sym, ap, _∙_, subst}
 use mathlib.Core.List.{List, [], _∷_, map, flatMap}
-use mathlib.Core.Bool.{true, _&&_}
-use Prim.Native.Nat.{ℕ, zero, suc, _+_, _*_, _-_, _^_, _≤_, _<_, max}
+use mathlib.Core.Bool.{true}
+use Prim.Native.Nat.{ℕ, _+_, _*_, _-_, _≤_, _<_}
 use native.Mathlib.Omega.{arith}
-use native.Mathlib.Nat.{mul-le-mul-right, mul-le-mul-left}
-use lib.Dec.{leb, ltb}
+use native.Mathlib.Nat.{mul-le-mul-right}
 use lib.ListN.{length, length-append, length-map}
 use borrow.Author.Tests.{lt-leb, le-leb}
-use Rattle.words.proofs.Tests.{and-true}
 use Rattle.rules.specs.declared.Refusal.{Refusal}
 use Rattle.rules.specs.declared.Verdict.{Verdict}
-use Rattle.rules.specs.Rule.{Rule}
 use Rattle.rules.specs.Lists.{All}
-use Rattle.rules.specs.Replies.{Reply, Gives, Refuses, passed, refusalReply, verdictReply}
+use Rattle.rules.specs.Replies.{Gives, Refuses, passed, refusalReply, verdictReply}
 use Rattle.rules.specs.Checks.{sizeCheck}
 use Rattle.rules.proofs.ReplyLaws.{then-next, then-refuses, need-yes, need-no, refused-stop, fine-next, gives-refuses}
 use Rattle.ranges.specs.Prefixes.{Prefix}
@@ -23,15 +20,13 @@ use Rattle.ranges.specs.declared.Covered.{Covered}
 use Rattle.ranges.proofs.CallLaws.{ranged-passes}
 use Rattle.ranges.proofs.Theorems.{range-at-most, count-told, room-enough, prefixes-written}
 use Rattle.five_fields.specs.FiveFieldRule.{FiveFieldRule}
-use Rattle.five_fields.specs.declared.Expanded.{Expanded}
 use Rattle.five_fields.specs.Fields.{portBits}
-use Rattle.five_fields.specs.FiveFieldRules.{portsFit}
 use Rattle.five_fields.specs.Slices.{Slices, rows, ruleAt, rulesFrom, rulesIn}
 use Rattle.five_fields.specs.Expansion.{entry, sourcePrefixes, destinationPrefixes, expansion, expanded}
 use Rattle.five_fields.specs.Inner.{PortWords}
 use Rattle.five_fields.specs.Calls.{rulesCheck, sourceCheck, countReply}
 use Rattle.five_fields.proofs.ListLaws.{flat-length, flat-most, rules-next, rules-none, rules-count}
-use Rattle.five_fields.proofs.CheckLaws.{PortRange, port-range, Good, Sound, rules-sound}
+use Rattle.five_fields.proofs.CheckLaws.{PortRange, port-range, Good, rules-sound}
 
 -- ---- a range of ports
 

@@ -14,10 +14,10 @@ use Rattle.rules.specs.Rule.{held}
 use Rattle.ranges.specs.Prefixes.{careWord, valueWord}
 use Rattle.ranges.proofs.PrefixLaws.{care-fits}
 use Rattle.five_fields.specs.FiveFieldRule.{FiveFieldRule}
-use Rattle.five_fields.specs.Fields.{addressBits, portBits, protocolBits, joined}
+use Rattle.five_fields.specs.Fields.{addressBits, protocolBits, joined}
 use Rattle.five_fields.specs.FiveFieldRules.{anyProtocol}
-use Rattle.five_fields.specs.Expansion.{addressPrefix, protocolBy, protocolPrefix}
-use Rattle.five_fields.specs.Inner.{Bounded, entryBy}
+use Rattle.five_fields.specs.Expansion.{protocolBy, protocolPrefix}
+use Rattle.five_fields.specs.Inner.{entryBy}
 use Rattle.five_fields.proofs.CheckLaws.{protocol-prefix}
 
 -- ---- the protocol

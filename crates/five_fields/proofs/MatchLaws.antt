@@ -3,7 +3,7 @@ use mathlib.Core.Path.{_≡_, refl, sym, ap, ap₂, _∙_}
 use mathlib.Core.Logic.{_≢_}
 use mathlib.Core.List.{List, [], _∷_, _++_, map, flatMap}
 use mathlib.Core.Bool.{Bool, true, false, _&&_, _||_, and-comm}
-use Prim.Native.Nat.{ℕ, suc, _+_, _-_, _^_, _≤_, _<_}
+use Prim.Native.Nat.{ℕ, _+_, _-_, _^_, _≤_, _<_}
 use native.Mathlib.Omega.{arith}
 use lib.Bits.{bitAnd}
 use lib.Dec.{eqb, leb, ltb}
@@ -11,9 +11,9 @@ use lib.Pow.{pow-pos}
 use borrow.Author.Tests.{leb-true, ltb-true, le-leb, lt-ltb}
 use Rattle.words.proofs.Tests.{same-test, and-true, true-and, eqb-yes, yes-eqb, no-eqb, split as by}
 use Rattle.rules.specs.Rule.{Rule}
-use Rattle.rules.specs.Rules.{rule, choose, matches, first, answer, noMatch, Valid}
+use Rattle.rules.specs.Rules.{choose, matches, first, answer, noMatch, Valid}
 use Rattle.rules.specs.Lists.{All}
-use Rattle.rules.proofs.EntryLaws.{all-append, all-after, all-map, all-any}
+use Rattle.rules.proofs.EntryLaws.{all-after, all-any}
 use Rattle.rules.proofs.RuleLaws.{first-append}
 use Rattle.ranges.specs.Prefixes.{Prefix, prefix, PrefixIn, careWord, valueWord, prefixMatches, matching, inRange}
 use Rattle.ranges.specs.Ranges.{rangePrefixes}

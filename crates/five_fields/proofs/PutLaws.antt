@@ -1,10 +1,10 @@
 -- Laws of putting entries into the result slices, one after the other, and from the rules that the slices hold to each slice.
 use mathlib.Core.Path.{_≡_, refl, sym, ap, ap₂, _∙_}
 use mathlib.Core.List.{List, [], _∷_, _++_, map, map-append, flatMap}
-use Prim.Native.Nat.{ℕ, zero, suc, _+_, _*_, _-_, _≤_, _<_}
+use Prim.Native.Nat.{ℕ, suc, _+_, _*_, _-_, _≤_, _<_}
 use native.Mathlib.Omega.{arith}
 use native.Mathlib.Numerals.{add-one}
-use lib.ListN.{length, take, drop, getD, set, length-append, length-map, length-take, drop-of-length-le}
+use lib.ListN.{length, take, drop, getD, set, length-map, length-take, drop-of-length-le}
 use lib.Seq.{sets, sets-eq, drop-cons, getD-take, length-take-le}
 use Rattle.words.specs.Slices.{halvesOf}
 use Rattle.words.proofs.SliceLaws.{Machine, halves-append, halves-length, halves-drop}

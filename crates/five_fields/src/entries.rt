@@ -29,10 +29,10 @@ fn protocol_care(protocol: u32) -> u64
     requires { ⌜ protocol ≤ anyProtocol ⌝ }
     ensures { λ r. ⌜ r ≡ careWord protocolBits (protocolPrefix protocol) ⌝ }
 {
-    if protocol == 256 {
-        return 0;
+    if protocol < 256 {
+        return 255;
     }
-    255
+    0
 }
 
 // The value word of a protocol: 0 for any.

@@ -1,7 +1,7 @@
 use Rattle.five_fields.proofs.CheckLaws.{alike-threes, check-lengths, check-size, check-rules}
 use Rattle.words.proofs.Tests.{true-and, and-on, and-off}
 use borrow.Author.Tests.{not-true, not-false}
-use mathlib.Core.Path.{sym, ap, _∙_}
+use mathlib.Core.Path.{sym, _∙_}
 use borrow.Author.Needs.{needs}
 use Rattle.five_fields.proofs.checks.rules_verdict.Statement.{statement}
 use Rattle.five_fields.proofs.checks.rules_verdict.Tie as tie

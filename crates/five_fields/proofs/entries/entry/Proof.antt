@@ -1,6 +1,4 @@
 use Rattle.five_fields.proofs.EntryLaws.{care-within, value-within, address-within, entry-made}
-use native.Mathlib.Omega.{arith}
-use mathlib.Core.Path.{_≡_, sym, ap, _∙_}
 use borrow.Author.Needs.{needs}
 use Rattle.five_fields.proofs.entries.entry.Statement.{statement}
 use Rattle.five_fields.proofs.entries.entry.Tie as tie

@@ -2,11 +2,10 @@ use Rattle.five_fields.proofs.PutLaws.{Putting, putting-all, putting-so
 use Rattle.five_fields.specs.Inner.{entriesInside}
 use Rattle.five_fields.specs.FiveFieldRule.{ruleOf}
 use borrow.Author.Needs.{needs}
-use denote.Ref.{now}
-use lib.ListN.{length, take, drop}
+use lib.ListN.{take, drop}
 use native.Mathlib.Omega.{arith}
 use Prim.Native.Nat.{_+_, _-_, _≤_}
-use mathlib.Core.Path.{_≡_, refl, sym, ap, _∙_}
+use mathlib.Core.Path.{refl}
 use Rattle.five_fields.proofs.entries.put_inside.Statement.{statement}
 use Rattle.five_fields.proofs.entries.put_inside.Tie as tie
 use Rattle.five_fields.proofs.entries.put_inside.Reads as reads

@@ -6,10 +6,10 @@ use Rattle.rules.proofs.SliceLaws.{kept-lent}
 use borrow.Author.Needs.{needs}
 use denote.Ref.{now}
 use lib.Seq.{length-take-le}
-use lib.ListN.{length, take, drop, getD}
+use lib.ListN.{take, drop, getD}
 use native.Mathlib.Omega.{arith}
 use Prim.Native.Nat.{_+_, _*_, _-_, _≤_}
-use mathlib.Core.Path.{_≡_, refl, sym, ap, _∙_}
+use mathlib.Core.Path.{refl}
 use Rattle.five_fields.proofs.entries.put_pairs.Statement.{statement}
 use Rattle.five_fields.proofs.entries.put_pairs.Tie as tie
 use Rattle.five_fields.proofs.entries.put_pairs.Reads as reads

@@ -1,15 +1,14 @@
 use Rattle.five_fields.proofs.PutLaws.{Expanding, expanding-none, expanding-room, expanding-next, expanding-done}
 use Rattle.five_fields.proofs.CheckLaws.{rules-sound, good-at, good-fields, good-ports}
-use Rattle.five_fields.specs.Slices.{slices, ruleAt}
+use Rattle.five_fields.specs.Slices.{slices}
 use Rattle.five_fields.specs.FiveFieldRules.{fieldsFit, portsFit}
-use Rattle.five_fields.specs.FiveFieldRule.{ruleOf}
 use Rattle.rules.proofs.SliceLaws.{kept-lent}
 use borrow.Author.Needs.{needs}
 use denote.Ref.{now}
 use lib.ListN.{length}
 use native.Mathlib.Omega.{arith}
-use Prim.Native.Nat.{_+_, _-_, _≤_}
-use mathlib.Core.Path.{_≡_, sym, ap, _∙_}
+use Prim.Native.Nat.{_-_}
+use mathlib.Core.Path.{ap, _∙_}
 use Rattle.five_fields.proofs.expansions.put_all.Statement.{statement}
 use Rattle.five_fields.proofs.expansions.put_all.Tie as tie
 use Rattle.five_fields.proofs.expansions.put_all.Reads as reads

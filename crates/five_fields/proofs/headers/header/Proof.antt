@@ -2,8 +2,7 @@ use Rattle.five_fields.proofs.CallLaws.{built, not-built}
 use Rattle.five_fields.proofs.FieldLaws.{in-fields}
 use Rattle.five_fields.specs.declared.Built.{Built}
 use Rattle.words.specs.declared.Word.{Word}
-use native.Mathlib.Omega.{arith}
-use mathlib.Core.Path.{_≡_, sym, ap, _∙_}
+use mathlib.Core.Path.{sym, ap, _∙_}
 use borrow.Author.Needs.{needs}
 use Rattle.five_fields.proofs.headers.header.Statement.{statement}
 use Rattle.five_fields.proofs.headers.header.Tie as tie

@@ -1,10 +1,9 @@
 use Prim.Native.Nat.{_^_}
-use borrow.Author.Needs.{needs}
 use Rattle.five_fields.specs.Fields.{addressBits, inFields}
 use Rattle.words.proofs.Tests.{and-on, and-off}
 use borrow.Author.Tests.{lt-ltb, le-ltb}
 use native.Mathlib.Omega.{arith}
-use mathlib.Core.Path.{_≡_, sym, ap, _∙_}
+use mathlib.Core.Path.{_∙_}
 use Rattle.five_fields.proofs.headers.in_fields.Statement.{statement}
 use Rattle.five_fields.proofs.headers.in_fields.Tie as tie
 use Rattle.five_fields.proofs.headers.in_fields.Reads as reads
