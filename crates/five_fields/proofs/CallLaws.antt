@@ -1,12 +1,13 @@
 -- Laws of the calls that write and that build: from what the inner functions leave to what is promised.
 use mathlib.Core.Path.{_≡_, sym, ap, _∙_}
+use mathlib.Core.Logic.{_↔_}
 use mathlib.Core.List.{List, [], _∷_}
 use mathlib.Core.Bool.{true, false}
 use Prim.Native.Nat.{ℕ, _*_, _≤_, _<_}
 use native.Mathlib.Omega.{arith}
 use lib.Dec.{leb}
 use lib.ListN.{length}
-use borrow.Author.Tests.{leb-true}
+use borrow.Author.Tests.{leb-true, le-leb}
 use Rattle.words.specs.Halves.{halves}
 use Rattle.rules.specs.declared.Refusal.{Refusal}
 use Rattle.rules.specs.Replies.{Reply, Gives, Refuses, passed, _then_, refusal, refusalReply}
@@ -20,7 +21,7 @@ use Rattle.five_fields.specs.Fields.{headerOf, inFields}
 use Rattle.five_fields.specs.Slices.{Slices, rulesIn}
 use Rattle.five_fields.specs.Expansion.{expanded}
 use Rattle.five_fields.specs.Calls.{expandedReply, builtAnswer, rulesCheck, sourceCheck, countReply, expandCheck, expandReply, ExpandDone, headerReply}
-use Rattle.five_fields.proofs.CheckLaws.{bare-slices}
+use Rattle.five_fields.proofs.CheckLaws.{Sound, rules-sound, sound-rules, bare-slices}
 use Rattle.five_fields.proofs.PutLaws.{Laid}
 
 -- ---- what a count says
@@ -39,6 +40,14 @@ module _ (s : Slices) where
   unfolding sourceCheck sizeCheck
   source-rules e =
       (bare-first (rulesCheck s) _ (bare-slices s) [] e, leb-true _ _ (need-passed _ 3 1 0 (then-second (rulesCheck s) _ [] e)))
+
+  pub rules-source : rulesCheck s ≡ passed → entryCount ≤ 1024 → sourceCheck s ≡ passed
+  unfolding sourceCheck sizeCheck
+  rules-source e h = then-next _ _ e ∙ need-yes _ 3 1 0 (le-leb entryCount 1024 h)
+
+  -- Exactly those pass that are sound and become at most 1,024 entries.
+  pub source-exactly : (sourceCheck s ≡ passed) ↔ (Sound s × (entryCount ≤ 1024))
+  source-exactly = ((λ e. let p = source-rules e in (rules-sound s (p .0), p .1)), (λ x. rules-source (sound-rules s (x .0)) (x .1)))
 
   -- What `expansion_count` answers is the number of entries, of rules that pass.
   pub counted : (n : ℕ) → Gives (n ∷ []) ≡ countReply s → (sourceCheck s ≡ passed) × (n ≡ entryCount)

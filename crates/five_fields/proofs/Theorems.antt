@@ -6,26 +6,32 @@ use Prim.Native.Nat.{ℕ, _*_, _^_, _≤_, _<_}
 use native.Mathlib.Omega.{arith}
 use lib.ListN.{length, take, drop, length-map}
 use lib.Seq.{take-at, drop-at}
+use Rattle.words.specs.Halves.{num, halves}
 use Rattle.words.specs.Slices.{halvesOf}
+use Rattle.words.proofs.Tests.{split as by}
+use Rattle.words.proofs.WordLaws.{num-halves}
 use Rattle.words.proofs.SliceLaws.{halves-length}
 use Rattle.rules.specs.Rule.{Rule}
+use Rattle.rules.specs.declared.Wire.{Wire}
+use Rattle.rules.specs.declared.Refusal.{Refusal}
 use Rattle.rules.specs.Rules.{answer, Valid}
 use Rattle.rules.specs.Lists.{All}
 use Rattle.rules.specs.Slices.{rulesOf, careOf, valueOf, decisionOf, caresOf, valuesOf, decisionsOf, filled}
-use Rattle.rules.specs.Replies.{Gives, Refuses, passed, _then_}
+use Rattle.rules.specs.Replies.{Gives, Refuses, passed, need, _then_}
 use Rattle.rules.specs.Calls.{checkList, lookedUp, decided, answered}
-use Rattle.rules.proofs.ReplyLaws.{then-next, then-refuses, then-assoc, then-second, one-value, bare-first, same-given}
+use Rattle.rules.proofs.ReplyLaws.{then-next, then-refuses, then-assoc, then-second, one-value, bare-first, need-yes, need-no, same-given}
 use Rattle.rules.proofs.ZipLaws.{ap₃}
 use Rattle.rules.proofs.CheckLaws.{sound-list, width-inside, results-fine, results-seven}
 use Rattle.rules.proofs.SliceLaws.{rules-columns}
 use Rattle.rules.proofs.AnswerLaws.{looked-answered}
 use Rattle.five_fields.specs.declared.Expanded.{Expanded}
+use Rattle.five_fields.specs.declared.Built.{Built}
 use Rattle.five_fields.specs.Numbers.{Numbers}
 use Rattle.five_fields.specs.Fields.{headerBits, headerOf, inFields, numbersOf}
 use Rattle.five_fields.specs.FiveFieldRules.{decides}
 use Rattle.five_fields.specs.Slices.{Slices, rulesIn}
 use Rattle.five_fields.specs.Expansion.{expanded}
-use Rattle.five_fields.specs.Calls.{expandedReply, rulesCheck, sourceCheck, countReply, expandCheck, expandReply, ExpandDone}
+use Rattle.five_fields.specs.Calls.{expandedReply, builtAnswer, rulesCheck, sourceCheck, countReply, expandCheck, expandReply, ExpandDone, headerReply}
 use Rattle.five_fields.proofs.FieldLaws.{in-fields, fields-in, joined-lt, header-back, header-within, numbers-back}
 use Rattle.five_fields.proofs.CheckLaws.{rules-sound}
 use Rattle.five_fields.proofs.MatchLaws.{expanded-first, expanded-all}
@@ -50,6 +56,23 @@ header-exactly h l =
       theirs = header-back h;
       alone = λ n e f. sym (numbers-back n (in-fields n e)) ∙ ap numbersOf f;
     }
+
+-- What `header` gives is the header of the five numbers, which are of their fields.
+pub header-told : (n : Numbers) (x : Wire) → Built.Header x ≡ builtAnswer (headerReply n) → (inFields n ≡ true) × (num (x .0) ≡ headerOf n)
+unfolding headerReply
+header-told n x e =
+    by (inFields n)
+    (λ t. (t, same-header (ap builtAnswer (then-next (need (inFields n) 6 0 0) _ (need-yes _ 6 0 0 t)))))
+    (λ f. absurd (no-header (e ∙ ap builtAnswer (then-refuses (need (inFields n) 6 0 0) _ (need-no _ 6 0 0 f)))))
+  where
+    only : {y z : Wire} → Built.Header y ≡ Built.Header z → y ≡ z
+    only f = cc
+
+    same-header : builtAnswer (headerReply n) ≡ Built.Header (record { 0 = halves (headerOf n) }) → num (x .0) ≡ headerOf n
+    same-header f = let w : x ≡ record { 0 = halves (headerOf n) } = only (e ∙ f) in ap (λ (y : Wire). num (y .0)) w ∙ num-halves (headerOf n)
+
+    no-header : {y : Wire} {z : Refusal} → Built.Header y ≡ Built.Refused z → ⊥
+    no-header {y} {z} f = let k : _≡_ {A = ℕ} 0 1 = cc in omega arith
 
 -- ---- what a header gets
 
@@ -78,7 +101,7 @@ filled-back : (ns was : List ℕ) (k : ℕ) → length ns ≡ k → drop k (fill
 filled-back ns was k e = drop-at ns (drop (length ns) was) k e ∙ ap (λ (j : ℕ). drop j was) e
 
 -- The first places of the result slices hold the entries, as many as the call says, and the later places what they had.
-pub record Written (s : Slices) (cs vs ds cs′ vs′ ds′ : List ℕ) (n : ℕ) : Type 0 where
+pub record EntriesWritten (s : Slices) (cs vs ds cs′ vs′ ds′ : List ℕ) (n : ℕ) : Type 0 where
   pub passes : rulesCheck s ≡ passed
   pub count : n ≡ length (expanded (rulesIn s))
   pub few : n ≤ 1024
@@ -103,7 +126,7 @@ module _ (s : Slices) (cs vs ds cs′ vs′ ds′ : List ℕ) (n : ℕ) (d : Exp
     sym (one-value (then-second (expandCheck s cs vs ds) _ (n ∷ []) told)),
   )
 
-  pub entries-written : Written s cs vs ds cs′ vs′ ds′ n
+  pub entries-written : EntriesWritten s cs vs ds cs′ vs′ ds′ n
   entries-written =
       record {
         passes = source-rules s (source .0) .0;
@@ -133,18 +156,18 @@ module _ (s : Slices) (cs vs ds cs′ vs′ ds′ : List ℕ) (n : ℕ) (d : Exp
       twice f = halves-length (map f all) ∙ ap (λ (k : ℕ). k * 2) (length-map all f ∙ sym (source .1))
 
   -- The rules in the first places are the ternary list.
-  pub written-rules : rulesOf (take (n * 2) cs′) (take (n * 2) vs′) (take n ds′) ≡ all
-  written-rules = let w = entries-written in ap₃ rulesOf (w .cares) (w .values) (w .decisions) ∙ rules-columns all
+  pub entries-rules : rulesOf (take (n * 2) cs′) (take (n * 2) vs′) (take n ds′) ≡ all
+  entries-rules = let w = entries-written in ap₃ rulesOf (w .cares) (w .values) (w .decisions) ∙ rules-columns all
 
   -- They are refused by no call on lists: as any list of width 104, with as many places as the call says, they pass.
-  pub written-passes : (l : ℕ) → checkList headerBits l (take (n * 2) cs′) (take (n * 2) vs′) (take n ds′) ≡ passed
-  written-passes l =
+  pub entries-pass : (l : ℕ) → checkList headerBits l (take (n * 2) cs′) (take (n * 2) vs′) (take n ds′) ≡ passed
+  entries-pass l =
       let w = entries-written in
       sound-list headerBits l _ _ _ (record {
         width = width-inside headerBits (omega arith) (omega arith);
         lent = record { values = long valueOf (w .values) ∙ sym (long careOf (w .cares)); decisions = ap (λ (k : ℕ). k * 2) (short (w .decisions)) ∙ sym (long careOf (w .cares)) };
         few = omega (arith, short (w .decisions), w .few);
-        valid = rw written-rules (expanded-valid s (w .passes));
+        valid = rw entries-rules (expanded-valid s (w .passes));
       })
     where
       long : (f : Rule → ℕ) {l : List ℕ} → l ≡ halvesOf (map f all) → length l ≡ n * 2
@@ -154,27 +177,41 @@ module _ (s : Slices) (cs vs ds cs′ vs′ ds′ : List ℕ) (n : ℕ) (d : Exp
       short e = ap length e ∙ length-map all decisionOf ∙ sym (source .1)
 
   -- Looked up there, the header of five numbers gets the decision of the first five-field rule that they satisfy, or no match.
-  pub written-lookup : (five : Numbers) → inFields five ≡ true
+  pub entries-lookup : (five : Numbers) → inFields five ≡ true
       → decided (lookedUp headerBits (take (n * 2) cs′) (take (n * 2) vs′) (take n ds′) (headerOf five)) ≡ answered (decides (rulesIn s) five)
-  written-lookup five e =
-      looked-answered headerBits _ _ _ (headerOf five) (written-passes 1) (header-fits five e)
-      ∙ ap (λ (rs : List Rule). answered (answer rs (headerOf five))) written-rules
+  entries-lookup five e =
+      looked-answered headerBits _ _ _ (headerOf five) (entries-pass 1) (header-fits five e)
+      ∙ ap (λ (rs : List Rule). answered (answer rs (headerOf five))) entries-rules
       ∙ ap answered (expanded-answers s (entries-written .passes) five e)
+
+  -- So does every header of 104 places, by the five numbers that it is made of.
+  pub entries-every-header : (h : ℕ) → h < 2 ^ headerBits
+      → decided (lookedUp headerBits (take (n * 2) cs′) (take (n * 2) vs′) (take n ds′) h) ≡ answered (decides (rulesIn s) (numbersOf h))
+  entries-every-header h l =
+      let x = header-exactly h l in
+      ap (λ (k : ℕ). decided (lookedUp headerBits (take (n * 2) cs′) (take (n * 2) vs′) (take n ds′) k)) (sym (x .theirs)) ∙ entries-lookup (numbersOf h) (x .inside)
+
+  -- And what `header` gives for five numbers gets what the five-field rules decide for them.
+  pub entries-header : (five : Numbers) (x : Wire) → Built.Header x ≡ builtAnswer (headerReply five)
+      → decided (lookedUp headerBits (take (n * 2) cs′) (take (n * 2) vs′) (take n ds′) (num (x .0))) ≡ answered (decides (rulesIn s) five)
+  entries-header five x e =
+      let h = header-told five x e in
+      ap (λ (k : ℕ). decided (lookedUp headerBits (take (n * 2) cs′) (take (n * 2) vs′) (take n ds′) k)) (h .1) ∙ entries-lookup five (h .0)
 
 -- ---- the number first, and then the entries
 
 -- With so many places in result slices that belong together `expand` answers the number that `expansion_count` gives.
-pub counted-answered : (s : Slices) (n : ℕ) (cs vs ds : List ℕ) → expandedReply (Expanded.Entries n) ≡ countReply s
+pub entries-answered : (s : Slices) (n : ℕ) (cs vs ds : List ℕ) → expandedReply (Expanded.Entries n) ≡ countReply s
     → length cs ≡ length vs → length cs ≡ length ds * 2 → n ≤ length ds → expandReply s cs vs ds ≡ Gives (n ∷ [])
 unfolding expandReply expandCheck
-counted-answered s n cs vs ds e p q h =
+entries-answered s n cs vs ds e p q h =
     let c = counted s n e in
     then-next _ _ (then-next _ _ (c .0) ∙ results-fine (entryCount s) cs vs ds p q (omega (arith, h, c .1))) ∙ ap (λ (k : ℕ). Gives (k ∷ [])) (sym (c .1))
 
 -- With fewer it is refused 7.
-pub counted-refused : (s : Slices) (n : ℕ) (cs vs ds : List ℕ) → expandedReply (Expanded.Entries n) ≡ countReply s
+pub entries-refused : (s : Slices) (n : ℕ) (cs vs ds : List ℕ) → expandedReply (Expanded.Entries n) ≡ countReply s
     → length cs ≡ length vs → length cs ≡ length ds * 2 → length ds < n → expandReply s cs vs ds ≡ Refuses 7 0 0
 unfolding expandReply expandCheck
-counted-refused s n cs vs ds e p q h =
+entries-refused s n cs vs ds e p q h =
     let c = counted s n e in
     then-refuses _ _ (then-next _ _ (c .0) ∙ results-seven (entryCount s) cs vs ds p q (omega (arith, h, c .1)))
