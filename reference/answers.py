@@ -13,6 +13,7 @@ from model import Refused, Swap
 
 LARGEST_WORD = model.HALF**2 - 1
 MOST = 100000  # more numbers of a slice than this are not meant
+FIELDS = "source source_length destination destination_length source_low source_high destination_low destination_high protocol".split()
 
 
 class Unreadable(Exception):
@@ -159,6 +160,16 @@ class Words:
     def range(self):
         """The bits of a field, and the first and the last number of a range of it."""
         return [self.number(name, 2**32 - 1) for name in ("bits", "low", "high")]
+
+    def five_field_rules(self):
+        """The ten slices of five-field rules: ten numbers to a rule in brackets, or each slice by itself."""
+        self.expect("rules")
+        if self.next() == FIELDS[0]:
+            return [self.numbers(name, 2**32 - 1) for name in FIELDS] + [self.numbers("decision", 65535)]
+        all = self.numbers(None, 2**32 - 1)
+        if len(all) % 10 or any(number > 65535 for number in all[9::10]):
+            raise Unreadable("a five-field rule has nine numbers and a decision")
+        return [all[k::10] for k in range(10)]
 
 
 def bytes_of(word, size):
@@ -520,6 +531,23 @@ def range_prefix_count(words):
     return lambda: said(model.range_prefix_count, *range)
 
 
+def expand(words):
+    slices, results = words.five_field_rules(), words.list("into")
+    return lambda: said(model.expand, slices, *results) + " into " + list_said(sum(model.FIVE_FIELDS), *results)
+
+
+def expansion_count(words):
+    slices = words.five_field_rules()
+    return lambda: said(model.expansion_count, *slices)
+
+
+def header(words):
+    numbers = words.numbers("numbers", 2**32 - 1)
+    if len(numbers) != len(model.FIVE_FIELDS):
+        raise Unreadable("a header is made of five numbers")
+    return lambda: said(model.header, *numbers)
+
+
 CALLS = {
     "check_list": check_list,
     "check_list_as": check_list_as,
@@ -561,6 +589,9 @@ CALLS = {
     "compare_first_outcomes": compare_first_outcomes,
     "range_prefixes": range_prefixes,
     "range_prefix_count": range_prefix_count,
+    "expand": expand,
+    "expansion_count": expansion_count,
+    "header": header,
 }
 
 

@@ -18,6 +18,7 @@ from model import HALF, WIDEST, Swap, slices_of, words_and_decisions
 MOST_BYTES = 65600  # of a slice of bytes in a case
 BAD_WIDTHS = [0, 129, 130, 192, 255, 256, 2**31, 2**32 - 1]
 BAD_FIELDS = [0, 0, 17, 17, 18, 31, 32, 33, 64, 255, 256, 65536, 2**31, 2**32 - 1]
+KNOWN_PORTS = [(1024, 65535), (0, 1023), (137, 139), (6881, 6889), (20, 21)]  # ranges that access lists have
 
 
 # What is handed in, as text. ---------------------------------------------------------------------------------------------
@@ -33,6 +34,13 @@ def swap_text(swap):
 def default_text(default):
     """The default of a side; `none` where there is none."""
     return "none" if default is None else str(default)
+
+
+def five_fields_text(slices, one_by_one=False):
+    """Five-field rules, ten numbers each; or slice by slice, as they have to be where they are not equally long."""
+    if one_by_one or len(set(len(slice) for slice in slices)) > 1:
+        return " ".join("%s %s" % (name, numbers_said(slice)) for name, slice in zip(answers.FIELDS + ["decision"], slices))
+    return "[%s]" % ", ".join(" ".join(str(number) for number in rule) for rule in zip(*slices))
 
 
 def marks(first, length):
@@ -173,6 +181,39 @@ class Maker:
         ends = self.pick((a, b), (a, b), (a, b), few, (a, a), (0, b), (a, last), (0, last), (1, last - 1), prefix, prefix)
         return sorted(min(max(number, 0), last) for number in ends)
 
+    def network(self):
+        """An address and how many of its first bits count: any address, a network, a host, or any length."""
+        length = self.pick(0, 0, 0, 8, 16, 24, 24, 32, 32, self.random.randint(0, 32))
+        near = self.pick(0x0A000000, 0xAC100000, 0xC0A80000, 0xFFFFFF00) + self.random.getrandbits(self.pick(2, 8))
+        address = self.pick(near, near, near, self.random.getrandbits(32), 0, 2**32 - 1)
+        return address >> (32 - length) << (32 - length), length
+
+    def ports(self, many):
+        """Low and high: any port, one port, a known range; and where many prefixes are meant, any range, or the one that takes most."""
+        one = self.pick(0, 22, 25, 53, 80, 443, 65535, self.random.getrandbits(16))
+        simple = self.pick((0, 65535), (0, 65535), (one, one), (one, one), self.random.choice(KNOWN_PORTS))
+        return self.pick(simple, tuple(self.range_in(16)), (1, 65534)) if many else simple
+
+    def five_field_rule(self, decisions, many):
+        protocol = self.pick(256, 256, 6, 6, 17, 17, 1, 0, 255, self.random.getrandbits(8))
+        ports = self.ports(many and self.chance(40)) + self.ports(many and self.chance(40))
+        return self.network() + self.network() + ports + (protocol, self.random.choice(decisions))
+
+    def five_field_rules(self):
+        """The ten slices of some rules: most often few; seldom as many rules of one entry more as bring the entries to 1,024, or near."""
+        decisions, many = [self.decision() for _ in range(self.pick(1, 2, 3))], self.chance(5 if self.small else 15)
+        rules = [self.five_field_rule(decisions, many) for _ in range(self.some(3 if self.small else 8))]
+        slices = [list(slice) for slice in zip(*rules)] or [[] for _ in range(10)]
+        entries = model.expansion_count(*slices) if self.chance(4) and not many else model.LONGEST
+        if entries < model.LONGEST:
+            self.zero_rules(slices, len(rules) + model.LONGEST - entries + self.pick(-1, 0, 0, 1))
+        return slices
+
+    def zero_rules(self, slices, count):
+        """Rules that are good, of ten zeros, up to so many in all."""
+        for slice in slices:
+            slice.extend([0] * (count - len(slice)))
+
     # Damage. Each of these takes a good part and hands back a worse one.
 
     def bad_width(self, width):
@@ -264,6 +305,38 @@ class Maker:
             return self.pick((high + 1, high), (high + 1, low), (low + more, high), (far, high))
         return self.pick((low, high + more), (low + more, high + more), (low, far), (far, far))
 
+    def bad_five_field_rule(self, rule):
+        """A length, an address, the protocol, a range or the decision is wrong; often the low bits of a number are still good."""
+        rule, side, fault = list(rule), self.pick(0, 2), self.random.randrange(8)
+        if fault == 0:
+            rule[side + 1] = self.pick(33, 33, 34, 64, 255, 256 + rule[side + 1] % 256, 65536, 2**31, 2**32 - 1)
+        elif fault == 1:
+            rule[side + 1] = self.random.randrange(32) if rule[side + 1] >= 32 else rule[side + 1]
+            rule[side] |= 1 << self.pick(0, 31 - rule[side + 1], self.random.randrange(32 - rule[side + 1]))
+        elif fault == 2:
+            rule[8] = self.pick(257, 257, 258, 262, 511, 512, 65542, 2**31, 2**32 - 1)
+        elif fault < 6:
+            low, high = rule[side + 4 : side + 6]
+            rule[side + 4 : side + 6] = self.bad_range(16, low % 65536, high % 65536)
+        else:
+            rule[9] = 65535
+        return rule
+
+    def bad_five_field_rules(self, slices):
+        slices = [slice[:] for slice in slices]
+        for _ in range(self.pick(1, 1, 2, 3, 4)):
+            fault = self.random.randrange(20)
+            if fault < 16:
+                if min(len(slice) for slice in slices) > 0:
+                    k = self.random.randrange(min(len(slice) for slice in slices))
+                    for slice, number in zip(slices, self.bad_five_field_rule([slice[k] for slice in slices])):
+                        slice[k] = number
+            elif fault < 19:
+                self.bad_lengths(slices)
+            elif self.chance(50):
+                self.zero_rules(slices, self.pick(1025, 1025, 1026))
+        return slices
+
     # Parts that are damaged now and then.
 
     def any_width(self, width, percent=6):
@@ -304,6 +377,17 @@ class Maker:
         if self.chance(percent):
             low, high = self.bad_range(bits, low, high)
         return self.bad_field(bits) if self.chance(percent) else bits, low, high, need
+
+    def any_five_field_rules(self, percent):
+        """Five-field rules as text, and how many entries they have, or 0 where they are refused."""
+        slices = self.five_field_rules()
+        if self.chance(percent):
+            slices = self.bad_five_field_rules(slices)
+        try:
+            need = model.expansion_count(*slices)
+        except model.Refused:
+            need = 0
+        return five_fields_text(slices, len(slices[0]) > 20 or self.chance(10)), need
 
     def room(self, need):
         """The places of a result: most often enough."""
@@ -821,6 +905,25 @@ def range_prefix_count(make):
     return "range_prefix_count bits %d low %d high %d" % make.any_range(10)[:3]
 
 
+def expand(make):
+    text, need = make.any_five_field_rules(30)
+    return "expand rules %s into %s" % (text, make.list_marks(need))
+
+
+def expansion_count(make):
+    return "expansion_count rules %s" % make.any_five_field_rules(40)[0]
+
+
+def header(make):
+    """The numbers of five fields: any, at the ends of a field, or now and then outside it."""
+    numbers = [make.pick(make.random.getrandbits(bits), make.number_in(bits)) for bits in model.FIVE_FIELDS]
+    if make.chance(30):
+        for k in make.random.sample((2, 3, 4), make.pick(1, 1, 2, 3)):
+            end = 2 ** model.FIVE_FIELDS[k]
+            numbers[k] = make.pick(end, end, end + 1, end + numbers[k], 65536 + numbers[k], 2**31, 2**32 - 1)
+    return "header numbers %s" % numbers_said(numbers)
+
+
 KINDS = {
     "rules": {
         "check_list": check_list,
@@ -844,6 +947,7 @@ KINDS = {
         "compare_first_outcomes": compare_first_outcomes,
     },
     "ranges": {"range_prefixes": range_prefixes, "range_prefix_count": range_prefix_count},
+    "five_fields": {"expand": expand, "expansion_count": expansion_count, "header": header},
 }
 
 

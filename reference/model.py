@@ -19,6 +19,8 @@ MOST_LISTS = 16  # lists of an image
 HEAD, ENTRY = 4, 8  # bytes of an image's head, and of an entry of its contents
 WORD = {1: 8, 2: 16}  # the formats of images, and the bytes of a word in each
 LARGEST_FIELD = 16  # bits of a field that has ranges
+ADDRESS, PORT, PROTOCOL = 32, 16, 8  # bits of an address, of a port and of a protocol in a header of five fields
+ANY_PROTOCOL = 256  # the protocol of a five-field rule that takes any
 
 
 class Refused(Exception):
@@ -372,6 +374,129 @@ def range_prefixes(bits, low, high, care, value):
     care[:count] = [care_word(prefix) for prefix in prefixes]
     value[:count] = [value_word(prefix) for prefix in prefixes]
     return count
+
+
+# Five-field rules. Ten numbers make a rule, and each has a slice of its own. ---------------------------------------------
+
+FIVE_FIELDS = (ADDRESS, ADDRESS, PORT, PORT, PROTOCOL)  # source, destination, source port, destination port, protocol
+
+
+class FiveFieldRule:
+    """An address and how many of its first bits count, twice; low and high of a range of ports, twice; a protocol and a decision."""
+
+    def __init__(self, source, source_length, destination, destination_length, *rest):
+        self.source, self.source_length = source, source_length
+        self.destination, self.destination_length = destination, destination_length
+        self.source_low, self.source_high, self.destination_low, self.destination_high = rest[:4]
+        self.protocol, self.decision = rest[4:]
+
+
+def five_field_rules(slices):
+    """The rules of ten slices that are equally long."""
+    return [FiveFieldRule(*numbers) for numbers in zip(*slices)]
+
+
+def satisfies(rule, numbers):
+    """Five numbers against a rule, without any pattern: an address lies between the first and the last one of its prefix, a port
+    between low and high, and the protocol is the rule's, where that does not take any."""
+    source, destination, source_port, destination_port, protocol = numbers
+    return (
+        rule.source <= source <= rule.source + 2 ** (ADDRESS - rule.source_length) - 1
+        and rule.destination <= destination <= rule.destination + 2 ** (ADDRESS - rule.destination_length) - 1
+        and rule.source_low <= source_port <= rule.source_high
+        and rule.destination_low <= destination_port <= rule.destination_high
+        and rule.protocol in (protocol, ANY_PROTOCOL)
+    )
+
+
+def first_satisfied(rules, numbers):
+    """The number, from 1, of the first rule that the five numbers satisfy; or None."""
+    for number, rule in enumerate(rules, 1):
+        if satisfies(rule, numbers):
+            return number
+    return None
+
+
+def decision_for(rules, numbers):
+    """The decision of the first rule that the five numbers satisfy, or None."""
+    first = first_satisfied(rules, numbers)
+    return None if first is None else rules[first - 1].decision
+
+
+def is_prefix(address, length):
+    """At most all bits of an address count, and those that do not are 0."""
+    return length <= ADDRESS and "1" not in bits(ADDRESS, address)[length:]
+
+
+def check_five_field_rule(number, rule):
+    """23 for the addresses and the protocol, 20 for the ports, 5 for the decision."""
+    prefixes = is_prefix(rule.source, rule.source_length) and is_prefix(rule.destination, rule.destination_length)
+    if not prefixes or rule.protocol > ANY_PROTOCOL:
+        raise Refused(23, 1, number)
+    for low, high in (rule.source_low, rule.source_high), (rule.destination_low, rule.destination_high):
+        if low > high or high >= 2**PORT:
+            raise Refused(20, 1, number)
+    if rule.decision == NO_MATCH:
+        raise Refused(5, 1, number)
+
+
+def port_prefixes(rule):
+    """The prefixes of the source ports, and those of the destination ports."""
+    sources = prefixes_of_range(PORT, rule.source_low, rule.source_high)
+    return sources, prefixes_of_range(PORT, rule.destination_low, rule.destination_high)
+
+
+def address_text(address, length):
+    return bits(ADDRESS, address)[:length] + "*" * (ADDRESS - length)
+
+
+def protocol_text(protocol):
+    return "*" * PROTOCOL if protocol == ANY_PROTOCOL else bits(PROTOCOL, protocol)
+
+
+def expansion(rule):
+    """A pattern for each pair of port prefixes: with the first source prefix every destination prefix, then with the next one."""
+    sources, destinations = port_prefixes(rule)
+    addresses = address_text(rule.source, rule.source_length) + address_text(rule.destination, rule.destination_length)
+    return [addresses + source + destination + protocol_text(rule.protocol) for source in sources for destination in destinations]
+
+
+def expansion_count(*slices):
+    """The number of entries of all rules' expansions. 2 where the slices are not equally long, 3 for too many rules, then the rules
+    from the top; once all are good, 3 for too many entries."""
+    if len(set(len(slice) for slice in slices)) != 1:
+        raise Refused(2)
+    rules = five_field_rules(slices)
+    if len(rules) > LONGEST:
+        raise Refused(3, 1, 0)
+    for number, rule in enumerate(rules, 1):
+        check_five_field_rule(number, rule)
+    count = sum(len(sources) * len(destinations) for sources, destinations in map(port_prefixes, rules))
+    if count > LONGEST:
+        raise Refused(3, 1, 0)
+    return count
+
+
+def expand(slices, care, value, decision):
+    """The same number; the entries are put into the results, rule after rule, and later places stay. 2 where the results do not belong
+    together and 7 where they have too few places come last."""
+    count = expansion_count(*slices)
+    if not belong_together(care, value, decision):
+        raise Refused(2)
+    if len(decision) < count:
+        raise Refused(7)
+    entries = [(text, rule.decision) for rule in five_field_rules(slices) for text in expansion(rule)]
+    put_words(care, 0, [care_word(text) for text, _ in entries])
+    put_words(value, 0, [value_word(text) for text, _ in entries])
+    decision[:count] = [decision for _, decision in entries]
+    return count
+
+
+def header(*numbers):
+    """The header of five numbers, which stand in it from left to right; 6 where one of them is outside its field."""
+    if any(number >= 2**size for size, number in zip(FIVE_FIELDS, numbers)):
+        raise Refused(6)
+    return int("".join(bits(size, number) for size, number in zip(FIVE_FIELDS, numbers)), 2)
 
 
 # Runs and weaving. ------------------------------------------------------------------------------------------------------

@@ -1,5 +1,6 @@
 // Which call a case makes, by the name that it starts with.
 use crate::compare_calls;
+use crate::five_fields_calls;
 use crate::given;
 use crate::image_calls;
 use crate::names;
@@ -36,6 +37,10 @@ pub fn answered(s: &[u8], w: &[u8], to: usize) -> usize {
         names::RANGE_PREFIXES..=names::RANGE_PREFIX_COUNT => {
             ranges_calls::on_range(call, s, end, w, to)
         }
+        names::EXPAND..=names::EXPANSION_COUNT => {
+            five_fields_calls::on_rules(call, s, end, w, to)
+        }
+        names::HEADER => five_fields_calls::header(s, end, w, to),
         _ => UNKNOWN,
     }
 }

@@ -276,6 +276,24 @@ pub fn read_shorts(s: &[u8], from: usize, name: usize) -> Shorts {
     }
 }
 
+// A slice of numbers of 32 bits, which five-field rules are lent in.
+pub struct Fields {
+    pub numbers: [u32; 4112],
+    pub count: usize,
+    pub at: usize,
+}
+
+pub fn read_fields(s: &[u8], from: usize, name: usize) -> Fields {
+    let mut wide = [0u64; 8224];
+    let f = words_to(s, after(s, from, name), 32, &mut wide);
+    let numbers = slices::fields_of(&wide, 0, 1, f.count);
+    Fields {
+        numbers,
+        count: f.count,
+        at: f.at,
+    }
+}
+
 // The numbers in brackets as bytes, as many as `out` has room for.
 pub fn bytes_to(s: &[u8], from: usize, out: &mut [u8]) -> Filled {
     let mut wide = [0u64; 131200];

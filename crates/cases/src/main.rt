@@ -3,6 +3,8 @@
 mod calls;
 mod compare_calls;
 mod files;
+mod five_field_rules;
+mod five_fields_calls;
 mod given;
 mod image_calls;
 mod names;

@@ -84,65 +84,89 @@ pub const RANGE_PREFIXES: usize = 38;
 
 pub const RANGE_PREFIX_COUNT: usize = 39;
 
-pub const LIST: usize = 40;
+pub const EXPAND: usize = 40;
 
-pub const OLD: usize = 41;
+pub const EXPANSION_COUNT: usize = 41;
 
-pub const NEW: usize = 42;
+pub const LIST: usize = 42;
 
-pub const DEFAULT: usize = 43;
+pub const OLD: usize = 43;
 
-pub const INTO: usize = 44;
+pub const NEW: usize = 44;
 
-pub const HEADERS: usize = 45;
+pub const DEFAULT: usize = 45;
 
-pub const HEADER: usize = 46;
+pub const INTO: usize = 46;
 
-pub const AS: usize = 47;
+pub const HEADERS: usize = 47;
 
-pub const NUMBER: usize = 48;
+pub const HEADER: usize = 48;
 
-pub const RULE: usize = 49;
+pub const AS: usize = 49;
 
-pub const RULES: usize = 50;
+pub const NUMBER: usize = 50;
 
-pub const PLACE: usize = 51;
+pub const RULE: usize = 51;
 
-pub const SWAP: usize = 52;
+pub const RULES: usize = 52;
 
-pub const START: usize = 53;
+pub const PLACE: usize = 53;
 
-pub const IMAGE: usize = 54;
+pub const SWAP: usize = 54;
 
-pub const ID: usize = 55;
+pub const START: usize = 55;
 
-pub const IDS: usize = 56;
+pub const IMAGE: usize = 56;
 
-pub const COUNTS: usize = 57;
+pub const ID: usize = 57;
 
-pub const CARE: usize = 58;
+pub const IDS: usize = 58;
 
-pub const VALUE: usize = 59;
+pub const COUNTS: usize = 59;
 
-pub const DECISION: usize = 60;
+pub const CARE: usize = 60;
 
-pub const FIRST: usize = 61;
+pub const VALUE: usize = 61;
 
-pub const LAST: usize = 62;
+pub const DECISION: usize = 62;
 
-pub const TIMES: usize = 63;
+pub const FIRST: usize = 63;
 
-pub const TO: usize = 64;
+pub const LAST: usize = 64;
 
-pub const NONE: usize = 65;
+pub const TIMES: usize = 65;
 
-pub const HALF: usize = 66;
+pub const TO: usize = 66;
 
-pub const BITS: usize = 67;
+pub const NONE: usize = 67;
 
-pub const LOW: usize = 68;
+pub const HALF: usize = 68;
 
-pub const HIGH: usize = 69;
+pub const BITS: usize = 69;
+
+pub const LOW: usize = 70;
+
+pub const HIGH: usize = 71;
+
+pub const NUMBERS: usize = 72;
+
+pub const SOURCE: usize = 73;
+
+pub const SOURCE_LENGTH: usize = 74;
+
+pub const DESTINATION: usize = 75;
+
+pub const DESTINATION_LENGTH: usize = 76;
+
+pub const SOURCE_LOW: usize = 77;
+
+pub const SOURCE_HIGH: usize = 78;
+
+pub const DESTINATION_LOW: usize = 79;
+
+pub const DESTINATION_HIGH: usize = 80;
+
+pub const PROTOCOL: usize = 81;
 
 // The number of a word among all words; one that is none of them has the number 99. Most words of a case are numbers, which start with
 // no letter.
@@ -152,7 +176,7 @@ fn place_of(word: &[u8], all: &[u8]) -> usize {
     }
     let mut at = 0;
     let mut k = 0;
-    while k < 70 {
+    while k < 82 {
         let from = word_start(all, at);
         at = word_end(all, from);
         if check::same(part(all, from, at), word) {
@@ -167,6 +191,6 @@ fn place_of(word: &[u8], all: &[u8]) -> usize {
 pub fn number_of(word: &[u8]) -> usize {
     place_of(
         word,
-        b"check_list check_list_as lookup lookup_number lookup_swapped prefix_swap runs weave write compare compare_outcomes rule_at put_rule check_rule covers crosses distance rule_covers rule_crosses apply_rule apply undo invert compose check width format count entry body body_refusal tally read weave_image compare_lists compare_first compare_list_outcomes compare_first_outcomes range_prefixes range_prefix_count list old new default into headers header as number rule rules place swap start image id ids counts care value decision first last times to none half bits low high",
+        b"check_list check_list_as lookup lookup_number lookup_swapped prefix_swap runs weave write compare compare_outcomes rule_at put_rule check_rule covers crosses distance rule_covers rule_crosses apply_rule apply undo invert compose check width format count entry body body_refusal tally read weave_image compare_lists compare_first compare_list_outcomes compare_first_outcomes range_prefixes range_prefix_count expand expansion_count list old new default into headers header as number rule rules place swap start image id ids counts care value decision first last times to none half bits low high numbers source source_length destination destination_length source_low source_high destination_low destination_high protocol",
     )
 }

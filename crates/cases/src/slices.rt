@@ -16,6 +16,11 @@ pub fn shorts(space: &[u16; 4112], n: usize) -> &[u16] {
     if n <= s.len() { &s[..n] } else { &s[..0] }
 }
 
+pub fn fields(space: &[u32; 4112], n: usize) -> &[u32] {
+    let s: &[u32] = space;
+    if n <= s.len() { &s[..n] } else { &s[..0] }
+}
+
 pub fn bytes(s: &[u8], n: usize) -> &[u8] {
     if n <= s.len() { &s[..n] } else { &s[..0] }
 }
@@ -80,6 +85,19 @@ pub fn shorts_of(numbers: &[u64], from: usize, step: usize, count: usize) -> [u1
     let mut i = 0;
     while i < count && i < 4112 {
         out[i] = (words::capped(words::word_at(numbers, at)) % 65536) as u16;
+        at = std::num::wrapping_add_usize(at, step);
+        i += 1;
+    }
+    out
+}
+
+// The same as numbers of 32 bits.
+pub fn fields_of(numbers: &[u64], from: usize, step: usize, count: usize) -> [u32; 4112] {
+    let mut out = [0u32; 4112];
+    let mut at = from;
+    let mut i = 0;
+    while i < count && i < 4112 {
+        out[i] = (words::capped(words::word_at(numbers, at)) % 4294967296) as u32;
         at = std::num::wrapping_add_usize(at, step);
         i += 1;
     }

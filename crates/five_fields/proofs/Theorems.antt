@@ -49,8 +49,8 @@ pub record HeaderOfOne (h : ℕ) : Type 0 where
   pub theirs : headerOf (numbersOf h) ≡ h
   pub alone : (n : Numbers) → inFields n ≡ true → headerOf n ≡ h → n ≡ numbersOf h
 
-pub header-exactly : (h : ℕ) → h < 2 ^ headerBits → HeaderOfOne h
-header-exactly h l =
+pub header-numbers : (h : ℕ) → h < 2 ^ headerBits → HeaderOfOne h
+header-numbers h l =
     record {
       inside = fields-in (numbersOf h) (header-within h l);
       theirs = header-back h;
@@ -85,7 +85,7 @@ module _ (s : Slices) (passes : rulesCheck s ≡ passed) where
   -- So does every header of 104 places, by the five numbers that it is made of.
   pub every-header : (h : ℕ) → h < 2 ^ headerBits → answer (expanded (rulesIn s)) h ≡ decides (rulesIn s) (numbersOf h)
   every-header h l =
-      let x = header-exactly h l in
+      let x = header-numbers h l in
       ap (answer (expanded (rulesIn s))) (sym (x .theirs)) ∙ expanded-answers (numbersOf h) (x .inside)
 
   -- Each entry is a rule of 104 places.
@@ -188,7 +188,7 @@ module _ (s : Slices) (cs vs ds cs′ vs′ ds′ : List ℕ) (n : ℕ) (d : Exp
   pub entries-every-header : (h : ℕ) → h < 2 ^ headerBits
       → decided (lookedUp headerBits (take (n * 2) cs′) (take (n * 2) vs′) (take n ds′) h) ≡ answered (decides (rulesIn s) (numbersOf h))
   entries-every-header h l =
-      let x = header-exactly h l in
+      let x = header-numbers h l in
       ap (λ (k : ℕ). decided (lookedUp headerBits (take (n * 2) cs′) (take (n * 2) vs′) (take n ds′) k)) (sym (x .theirs)) ∙ entries-lookup (numbersOf h) (x .inside)
 
   -- And what `header` gives for five numbers gets what the five-field rules decide for them.

@@ -61,7 +61,7 @@ abbrev pub toDestination : (header : ℕ) → ℕ
 toDestination h = leftOf (toSourcePort h) portBits
 
 -- The five numbers of a header. That each header of 104 places is that of these five numbers and of no others is the theorem
--- `header-exactly`.
+-- `header-numbers`.
 unfoldable pub numbersOf : (header : ℕ) → Numbers
 numbersOf h =
     numbers
