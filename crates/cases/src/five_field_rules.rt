@@ -13,8 +13,6 @@ use crate::names::SOURCE_LENGTH;
 use crate::names::SOURCE_LOW;
 use crate::slices;
 use crate::source::after;
-use crate::source::bad;
-use crate::source::is_bad;
 use crate::source::is_next;
 
 // The ten slices, how many numbers each of them has, and the position after them.
@@ -40,20 +38,6 @@ pub struct FiveFieldRules {
     pub protocols: usize,
     pub decisions: usize,
     pub at: usize,
-}
-
-// The position after so many numbers, where they are whole rules and their decisions are such that a slice can hold; else a bad one at
-// their start.
-fn whole_rules(numbers: &[u64], count: usize, start: usize, end: usize) -> usize {
-    let mut i = 0;
-    while i < count && (i % 10 < 9 || words::below(words::word_at(numbers, i), 16)) {
-        i += 1;
-    }
-    if is_bad(end) || i == count && count % 10 == 0 {
-        end
-    } else {
-        bad(start)
-    }
 }
 
 // The ten slices one by one.
@@ -140,7 +124,7 @@ fn by_numbers(s: &[u8], from: usize) -> FiveFieldRules {
         destination_highs: count,
         protocols: count,
         decisions: count,
-        at: whole_rules(all, f.count, from, f.at),
+        at: given::whole_rows(all, f.count, 10, 9, from, f.at),
     }
 }
 

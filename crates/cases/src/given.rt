@@ -222,6 +222,34 @@ pub fn words_to(s: &[u8], from: usize, bits: u32, out: &mut [u64]) -> Filled {
     }
 }
 
+// The column after this one in rows of so many.
+fn next_column(column: usize, row: usize) -> usize {
+    if next(column) < row { next(column) } else { 0 }
+}
+
+// The position after so many numbers, where they are whole rows of so many, and those past the first columns of each, which are free, are
+// such that a slice of decisions can hold; else a bad one at their start.
+pub fn whole_rows(
+    numbers: &[u64],
+    count: usize,
+    row: usize,
+    free: usize,
+    start: usize,
+    end: usize,
+) -> usize {
+    let mut column = 0;
+    let mut i = 0;
+    while i < count && (column < free || words::below(words::word_at(numbers, i), 16)) {
+        column = next_column(column, row);
+        i += 1;
+    }
+    if is_bad(end) || i == count && column == 0 {
+        end
+    } else {
+        bad(start)
+    }
+}
+
 // A slice of words: its words, and after `half` one more number at its end. Its numbers are counted, two to a word.
 fn lent(s: &[u8], from: usize, out: &mut [u64]) -> Filled {
     let f = words_after(s, from, 128, out);

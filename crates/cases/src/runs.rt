@@ -7,8 +7,6 @@ use crate::names::NEW;
 use crate::names::OLD;
 use crate::slices;
 use crate::source::after;
-use crate::source::bad;
-use crate::source::is_bad;
 use crate::source::is_next;
 
 // The four slices, how many numbers each of them has, and the position after them.
@@ -22,20 +20,6 @@ pub struct Runs {
     pub olds: usize,
     pub news: usize,
     pub at: usize,
-}
-
-// The position after so many numbers, where they are whole runs and their answers are such that a slice can hold; else a bad one at their
-// start.
-fn whole_runs(numbers: &[u64], count: usize, start: usize, end: usize) -> usize {
-    let mut i = 0;
-    while i < count && (i % 4 < 2 || words::below(words::word_at(numbers, i), 16)) {
-        i += 1;
-    }
-    if is_bad(end) || i == count && count % 4 == 0 {
-        end
-    } else {
-        bad(start)
-    }
 }
 
 // The four slices one by one: `first`, `last`, `old` and `new`.
@@ -81,7 +65,7 @@ fn by_numbers(s: &[u8], from: usize) -> Runs {
         lasts: twice,
         olds: count,
         news: count,
-        at: whole_runs(all, f.count, from, f.at),
+        at: given::whole_rows(all, f.count, 4, 2, from, f.at),
     }
 }
 

@@ -1,19 +1,20 @@
 use borrow.Author.Needs.{needs}
 use Prim.Native.Nat.{_-_}
-use Rattle.cases.proofs.five_field_rules.whole_rules.Statement.{statement}
-use Rattle.cases.proofs.five_field_rules.whole_rules.Tie as tie
-use Rattle.cases.proofs.five_field_rules.whole_rules.Reads as reads
-use Rattle.cases.proofs.five_field_rules.whole_rules.Lts as lts
+use Rattle.cases.proofs.given.whole_rows.Statement.{statement}
+use Rattle.cases.proofs.given.whole_rows.Tie as tie
+use Rattle.cases.proofs.given.whole_rows.Reads as reads
+use Rattle.cases.proofs.given.whole_rows.Lts as lts
+use Rattle.cases.proofs.given.next_column.Reads as next-column-reads
 use Rattle.cases.proofs.source.bad.Reads as bad-reads
 use Rattle.cases.proofs.source.is_bad.Reads as is-bad-reads
 use Rattle.words.proofs.below.Reads as below-reads
 use Rattle.words.proofs.word_at.Reads as word-at-reads
 
 abbrev Inv-loop : tie.InvT-loop
-Inv-loop numbers count start end i₀ i = Unit {0}
+Inv-loop numbers count row free start end column₀ i₀ column i = Unit {0}
 
 abbrev μ-loop : tie.MeasureT-loop
-μ-loop numbers count start end i₀ i = count - i
+μ-loop numbers count row free start end column₀ i₀ column i = count - i
 
 loop-holds : tie.Need-loop-holds Inv-loop μ-loop
 loop-holds c = search needs
@@ -23,6 +24,9 @@ word-at-requires c κs = search needs
 
 below-requires : tie.Need-below-requires Inv-loop μ-loop
 below-requires c κs = search needs
+
+next-column-requires : tie.Need-next-column-requires Inv-loop μ-loop
+next-column-requires c κs = search needs
 
 add-i : tie.Need-add-i Inv-loop μ-loop
 add-i c = search needs
@@ -45,8 +49,8 @@ returns c = search needs
 returns-2 : tie.Need-returns-2 Inv-loop μ-loop
 returns-2 c = search needs
 
-pub whole-rules-spec : {M : Type 1} → statement M
-whole-rules-spec =
+pub whole-rows-spec : {M : Type 1} → statement M
+whole-rows-spec =
     tie.close
     (tie.spec
     Inv-loop
@@ -54,6 +58,7 @@ whole-rules-spec =
     loop-holds
     word-at-requires
     below-requires
+    next-column-requires
     add-i
     loop-less
     loop-again
