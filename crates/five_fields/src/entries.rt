@@ -1,6 +1,6 @@
 // The entries of one rule, put into the result slices: every pair of port prefixes, source first and destination inside.
 ghost use mathlib.Core.Path.{_≡_};
-ghost use Prim.Native.Nat.{_+_, _*_, _-_, _^_, _≤_, _<_};
+ghost use Prim.Native.Nat.{_+_, _*_, _-_, _^_, _≤_};
 ghost use lib.ListN.{length, take};
 ghost use Rattle.rules.specs.Rule.{held};
 ghost use Rattle.rules.specs.Slices.{Lent};
@@ -91,7 +91,8 @@ fn put_inside(
     value: &mut [u64],
     decision: &mut [u16],
 )
-    requires { ⌜ Bounded (ruleOf rule) × (n ≤ length (now cares)) × (n ≤ length (now values)) × (at + n ≤ length (now decision)) × Lent (now care) (now value) (now decision) ⌝ }
+    requires { ⌜ Bounded (ruleOf rule) × (n ≤ length (now cares)) × (n ≤ length (now values))
+        × (at + n ≤ length (now decision)) × Lent (now care) (now value) (now decision) ⌝ }
     ensures { λ _. ⌜ Put at (entriesInside (ruleOf rule) «source_care» «source_value» (take n (now (cares .entry))) (take n (now (values .entry))))
         (now (care .entry)) (now (value .entry)) (now (decision .entry))
         (now (care .exit)) (now (value .exit)) (now (decision .exit)) ⌝ }
