@@ -1,4 +1,4 @@
-// The calls on five-field rules, and the one that makes a header of five numbers: the crate `five_fields`.
+// The calls on five-field rules, and the one that makes a header of five numbers: the crates `five_fields` and `five_numbers`.
 use crate::five_field_rules;
 use crate::given;
 use crate::names;
@@ -8,9 +8,9 @@ use crate::source::after;
 use crate::source::answer_at;
 use crate::source::bad;
 use crate::source::is_bad;
-use five_fields::Built;
 use five_fields::Expanded;
-use five_fields::Numbers;
+use five_numbers::Built;
+use five_numbers::Numbers;
 
 // The places of a header of five fields.
 const PLACES: u32 = 104;
@@ -186,5 +186,5 @@ pub fn header(s: &[u8], from: usize, w: &[u8], to: usize) -> usize {
     let mut numbers = [0u64; 10];
     let f = given::words_to(s, start, 32, &mut numbers);
     let at = answer_at(s, after_five(f.count, start, f.at), to);
-    show_built(w, at, five_fields::header(five_of(&numbers)))
+    show_built(w, at, five_numbers::header(five_of(&numbers)))
 }

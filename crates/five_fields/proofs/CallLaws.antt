@@ -1,26 +1,20 @@
--- Laws of the calls that write and that build: from what the inner functions leave to what is promised.
-use mathlib.Core.Path.{_≡_, sym, ap, _∙_}
+-- Laws of the calls: what a count says, and from what the inner functions leave to what is promised.
+use mathlib.Core.Path.{_≡_, refl, sym, ap, _∙_}
 use mathlib.Core.Logic.{_↔_}
 use mathlib.Core.List.{List, [], _∷_}
-use mathlib.Core.Bool.{true, false}
-use Prim.Native.Nat.{ℕ, _*_, _≤_, _<_}
-use native.Mathlib.Omega.{arith}
+use Prim.Native.Nat.{ℕ, _≤_}
 use lib.Dec.{leb}
 use lib.ListN.{length}
 use borrow.Author.Tests.{leb-true, le-leb}
-use Rattle.words.specs.Halves.{halves}
 use Rattle.rules.specs.declared.Refusal.{Refusal}
-use Rattle.rules.specs.Replies.{Reply, Gives, Refuses, passed, _then_, refusal, refusalReply}
+use Rattle.rules.specs.declared.Verdict.{Verdict}
+use Rattle.rules.specs.Replies.{Reply, Gives, Refuses, passed, _then_, refusalReply, verdictReply}
 use Rattle.rules.specs.Checks.{sizeCheck, lengthsCheck, roomCheck}
-use Rattle.rules.proofs.ReplyLaws.{then-next, then-refuses, then-stop, then-second, one-value, gives-refuses, bare-first, Bare, bare-then, bare-need, need-yes, need-no, need-passed, same-refused, same-given}
-use Rattle.rules.proofs.CheckLaws.{results-two-values, results-two-decisions, results-seven, results-fine}
+use Rattle.rules.proofs.ReplyLaws.{then-next, then-stop, then-second, one-value, gives-refuses, bare-first, Bare, bare-then, bare-need, need-yes, need-passed, same-refused, same-given}
 use Rattle.five_fields.specs.declared.Expanded.{Expanded}
-use Rattle.five_fields.specs.declared.Built.{Built}
-use Rattle.five_fields.specs.Numbers.{Numbers}
-use Rattle.five_fields.specs.Fields.{headerOf, inFields}
 use Rattle.five_fields.specs.Slices.{Slices, rulesIn}
 use Rattle.five_fields.specs.Expansion.{expanded}
-use Rattle.five_fields.specs.Calls.{expandedReply, builtAnswer, rulesCheck, sourceCheck, countReply, expandCheck, expandReply, ExpandDone, headerReply}
+use Rattle.five_fields.specs.Calls.{expandedReply, rulesCheck, sourceCheck, countReply, expandCheck, expandReply, ExpandDone}
 use Rattle.five_fields.proofs.CheckLaws.{Sound, rules-sound, sound-rules, bare-slices}
 use Rattle.five_fields.proofs.PutLaws.{Laid}
 
@@ -91,21 +85,17 @@ module _ (s : Slices) (cs vs ds : List ℕ) where
     rest e = then-next _ _ (count .0) ∙ e
 
     -- the refusals of the result slices
-    pub expand-values : (r : Expanded) → expandedReply r ≡ Refuses 2 0 0 → (length cs ≡ length vs → ⊥) → ExpandDone s cs vs ds cs vs ds r
-    expand-values r e h = refused-as r (refusal 2 0 0) e (rest (results-two-values (entryCount s) cs vs ds h))
-
-    pub expand-decisions : (r : Expanded) → expandedReply r ≡ Refuses 2 0 0 → length cs ≡ length vs → (length cs ≡ length ds * 2 → ⊥) → ExpandDone s cs vs ds cs vs ds r
-    expand-decisions r e p h = refused-as r (refusal 2 0 0) e (rest (results-two-decisions (entryCount s) cs vs ds p h))
-
-    pub expand-room : (r : Expanded) → expandedReply r ≡ Refuses 7 0 0 → length cs ≡ length vs → length cs ≡ length ds * 2 → length ds < n → ExpandDone s cs vs ds cs vs ds r
-    expand-room r e p q h = refused-as r (refusal 7 0 0) e (rest (results-seven (entryCount s) cs vs ds p q (omega (arith, h, count .1))))
+    pub expand-results : (v : Verdict) {x : Refusal} → verdictReply v ≡ (lengthsCheck cs vs ds then roomCheck n (length ds)) → v ≡ Verdict.Refused x
+        → ExpandDone s cs vs ds cs vs ds (Expanded.Refused x)
+    expand-results v {x} e f =
+        refused-as (Expanded.Refused x) x refl (rest (ap (λ (k : ℕ). lengthsCheck cs vs ds then roomCheck k (length ds)) (sym (count .1)) ∙ sym e ∙ ap verdictReply f))
 
     -- the entries
-    pub expand-given : (cs′ vs′ ds′ : List ℕ) → length cs ≡ length vs → length cs ≡ length ds * 2 → n ≤ length ds → Laid (expanded (rulesIn s)) cs vs ds cs′ vs′ ds′
+    pub expand-given : (cs′ vs′ ds′ : List ℕ) → (lengthsCheck cs vs ds then roomCheck n (length ds)) ≡ passed → Laid (expanded (rulesIn s)) cs vs ds cs′ vs′ ds′
         → ExpandDone s cs vs ds cs′ vs′ ds′ (Expanded.Entries n)
     unfolding expandReply
-    expand-given cs′ vs′ ds′ e f h l =
-        let fine : expandCheck s cs vs ds ≡ passed = rest (results-fine (entryCount s) cs vs ds e f (omega (arith, h, count .1))) in
+    expand-given cs′ vs′ ds′ e l =
+        let fine : expandCheck s cs vs ds ≡ passed = rest (ap (λ (k : ℕ). lengthsCheck cs vs ds then roomCheck k (length ds)) (sym (count .1)) ∙ e) in
         let all = then-next _ (Gives (entryCount s ∷ [])) fine in
         record {
           reply = ap (λ (k : ℕ). Gives (k ∷ [])) (count .1) ∙ sym all;
@@ -113,13 +103,3 @@ module _ (s : Slices) (cs vs ds : List ℕ) where
           values = l .values ∙ same-given _ _ _ vs all;
           decisions = l .decisions ∙ same-given _ _ _ ds all;
         }
-
--- ---- the call that builds
-
-pub built : (n : Numbers) → inFields n ≡ true → Built.Header (record { 0 = halves (headerOf n) }) ≡ builtAnswer (headerReply n)
-unfolding headerReply
-built n e = sym (ap builtAnswer (then-next _ _ (need-yes _ 6 0 0 e)))
-
-pub not-built : (n : Numbers) → inFields n ≡ false → Built.Refused (record { number = 6; list = 0; rule = 0 }) ≡ builtAnswer (headerReply n)
-unfolding headerReply
-not-built n e = sym (ap builtAnswer (then-refuses _ _ (need-no _ 6 0 0 e)))

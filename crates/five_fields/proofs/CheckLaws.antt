@@ -6,7 +6,6 @@ use mathlib.Core.Bool.{Bool, true, false, _&&_, and-assoc}
 use Prim.Native.Nat.{ℕ, _+_, _-_, _%_, _^_, _≤_, _<_}
 use native.Mathlib.Omega.{arith}
 use lib.Dec.{eqb, leb, ltb}
-use lib.ListN.{length}
 use borrow.Author.Tests.{leb-true, ltb-true, le-leb, lt-ltb, lt-leb}
 use Rattle.words.proofs.Tests.{and-true, true-and, and-on, and-off, eqb-yes, yes-eqb, no-eqb, split as by}
 use Rattle.rules.specs.declared.Refusal.{Refusal}
@@ -15,11 +14,11 @@ use Rattle.rules.specs.Rules.{noMatch}
 use Rattle.rules.specs.Lists.{All}
 use Rattle.rules.specs.Replies.{Reply, Refuses, passed, need, _then_, verdictReply}
 use Rattle.rules.specs.Checks.{sizeCheck}
-use Rattle.rules.proofs.ReplyLaws.{then-next, then-refuses, then-second, need-yes, need-no, need-passed, need-then, fine-next, verdict-stop, Bare, bare-first, bare-need, bare-then}
+use Rattle.rules.proofs.ReplyLaws.{then-next, then-refuses, then-assoc, then-second, need-yes, need-no, need-passed, need-then, fine-next, verdict-stop, Bare, bare-first, bare-need, bare-then}
 use Rattle.ranges.specs.Prefixes.{PrefixIn}
 use Rattle.ranges.specs.Calls.{isRange}
 use Rattle.five_fields.specs.FiveFieldRule.{FiveFieldRule}
-use Rattle.five_fields.specs.Fields.{addressBits, portBits, protocolBits}
+use Rattle.five_numbers.specs.Fields.{addressBits, portBits, protocolBits}
 use Rattle.five_fields.specs.FiveFieldRules.{anyProtocol, isPrefix, fieldsFit, portsFit}
 use Rattle.five_fields.specs.Slices.{Slices, rows, each, alike, ruleAt, rulesFrom, rulesIn}
 use Rattle.five_fields.specs.Expansion.{addressPrefix, protocolPrefix}
@@ -198,31 +197,31 @@ each-append : (n : ℕ) (xs ys : List ℕ) → each n (xs ++ ys) ≡ (each n xs 
 each-append n [] ys = refl
 each-append n (x ∷ xs) ys = ap (λ (t : Bool). eqb x n && t) (each-append n xs ys) ∙ sym (and-assoc (eqb x n) (each n xs) (each n ys))
 
--- the nine lengths, three by three
-pub alike-threes : (s : Slices) → alike s
-    ≡ (each (rows s) (length (s .sources) ∷ length (s .sourceLengths) ∷ length (s .destinations) ∷ [])
-    && (each (rows s) (length (s .destinationLengths) ∷ length (s .sourceLows) ∷ length (s .sourceHighs) ∷ [])
-    && each (rows s) (length (s .destinationLows) ∷ length (s .destinationHighs) ∷ length (s .protocols) ∷ [])))
-unfolding alike
-alike-threes s =
-    each-append (rows s) (length (s .sources) ∷ length (s .sourceLengths) ∷ length (s .destinations) ∷ [])
-    (length (s .destinationLengths) ∷ length (s .sourceLows) ∷ length (s .sourceHighs) ∷ length (s .destinationLows) ∷ length (s .destinationHighs) ∷ length (s .protocols) ∷ [])
-    ∙ ap (λ (t : Bool). each (rows s) (length (s .sources) ∷ length (s .sourceLengths) ∷ length (s .destinations) ∷ []) && t)
-    (each-append (rows s) (length (s .destinationLengths) ∷ length (s .sourceLows) ∷ length (s .sourceHighs) ∷ [])
-    (length (s .destinationLows) ∷ length (s .destinationHighs) ∷ length (s .protocols) ∷ []))
+-- nine numbers, three by three
+pub each-threes : (n a b c d e f g h i : ℕ) → each n (a ∷ b ∷ c ∷ d ∷ e ∷ f ∷ g ∷ h ∷ i ∷ [])
+    ≡ (each n (a ∷ b ∷ c ∷ []) && (each n (d ∷ e ∷ f ∷ []) && each n (g ∷ h ∷ i ∷ [])))
+each-threes n a b c d e f g h i =
+    each-append n (a ∷ b ∷ c ∷ []) (d ∷ e ∷ f ∷ g ∷ h ∷ i ∷ [])
+    ∙ ap (λ (t : Bool). each n (a ∷ b ∷ c ∷ []) && t) (each-append n (d ∷ e ∷ f ∷ []) (g ∷ h ∷ i ∷ []))
+
+-- ten lengths: each check in turn
+module _ (t : Bool) (n : ℕ) where
+  pub lengths-two : t ≡ false → (need t 2 0 0 then sizeCheck 1 n) ≡ Refuses 2 0 0
+  lengths-two e = then-refuses _ _ (need-no t 2 0 0 e)
+
+  pub lengths-three : t ≡ true → 1024 < n → (need t 2 0 0 then sizeCheck 1 n) ≡ Refuses 3 1 0
+  unfolding sizeCheck
+  lengths-three e h = then-next _ _ (need-yes t 2 0 0 e) ∙ need-no _ 3 1 0 (lt-leb _ _ h)
+
+  pub lengths-fine : t ≡ true → n ≤ 1024 → (need t 2 0 0 then sizeCheck 1 n) ≡ passed
+  unfolding sizeCheck
+  lengths-fine e h = then-next _ _ (need-yes t 2 0 0 e) ∙ need-yes _ 3 1 0 (le-leb _ _ h)
 
 module _ (s : Slices) where
-  pub check-lengths : alike s ≡ false → rulesCheck s ≡ Refuses 2 0 0
+  -- the lengths, and then the rules
+  pub check-parts : rulesCheck s ≡ ((need (alike s) 2 0 0 then sizeCheck 1 (rows s)) then fiveFieldsCheck 1 (rulesIn s))
   unfolding rulesCheck
-  check-lengths e = then-refuses _ _ (need-no _ 2 0 0 e)
-
-  pub check-size : alike s ≡ true → 1024 < rows s → rulesCheck s ≡ Refuses 3 1 0
-  unfolding rulesCheck sizeCheck
-  check-size e h = then-next _ _ (need-yes _ 2 0 0 e) ∙ then-refuses _ _ (need-no _ 3 1 0 (lt-leb _ _ h))
-
-  pub check-rules : alike s ≡ true → rows s ≤ 1024 → rulesCheck s ≡ fiveFieldsCheck 1 (rulesIn s)
-  unfolding rulesCheck sizeCheck
-  check-rules e h = then-next _ _ (need-yes _ 2 0 0 e) ∙ then-next _ _ (need-yes _ 3 1 0 (le-leb _ _ h))
+  check-parts = sym (then-assoc (need (alike s) 2 0 0) (sizeCheck 1 (rows s)) (fiveFieldsCheck 1 (rulesIn s)))
 
   -- checks give no values
   pub bare-slices : Bare (rulesCheck s)
@@ -246,7 +245,7 @@ module _ (s : Slices) where
       }
 
   pub sound-rules : Sound → rulesCheck s ≡ passed
-  sound-rules t = check-rules (t .lengths) (t .few) ∙ good-rules 1 (rulesIn s) (t .good)
+  sound-rules t = check-parts ∙ then-next _ _ (lengths-fine (alike s) (rows s) (t .lengths) (t .few)) ∙ good-rules 1 (rulesIn s) (t .good)
 
   -- Exactly these pass.
   pub rules-exactly : (rulesCheck s ≡ passed) ↔ Sound

@@ -20,7 +20,7 @@ use Rattle.ranges.specs.declared.Covered.{Covered}
 use Rattle.ranges.proofs.CallLaws.{ranged-passes}
 use Rattle.ranges.proofs.Theorems.{range-at-most, count-told, room-enough, prefixes-written}
 use Rattle.five_fields.specs.FiveFieldRule.{FiveFieldRule}
-use Rattle.five_fields.specs.Fields.{portBits}
+use Rattle.five_numbers.specs.Fields.{portBits}
 use Rattle.five_fields.specs.Slices.{Slices, rows, ruleAt, rulesFrom, rulesIn}
 use Rattle.five_fields.specs.Expansion.{entry, sourcePrefixes, destinationPrefixes, expansion, expanded}
 use Rattle.five_fields.specs.Inner.{PortWords}

@@ -1,7 +1,7 @@
 -- Laws of the words of an entry, as the code makes them.
 use mathlib.Core.Path.{_≡_, sym, ap, ap₂, _∙_}
 use mathlib.Core.Logic.{_≢_}
-use mathlib.Core.Bool.{Bool}
+use mathlib.Core.Bool.{Bool, true}
 use Prim.Native.Nat.{ℕ, _-_, _^_, _≤_, _<_}
 use native.Mathlib.Omega.{arith}
 use lib.Pow.{pow-pos}
@@ -10,11 +10,17 @@ use Rattle.words.proofs.Tests.{yes-eqb}
 use Rattle.words.specs.declared.Word.{Word}
 use Rattle.words.specs.Halves.{halves}
 use Rattle.rules.specs.declared.Rule.{Rule as Held}
+use Rattle.rules.specs.declared.Wire.{Wire}
+use Rattle.rules.specs.declared.Refusal.{Refusal}
+use Rattle.five_numbers.specs.declared.Built.{Built}
+use Rattle.five_numbers.specs.Numbers.{Numbers}
+use Rattle.five_numbers.specs.Calls.{builtAnswer, headerReply}
+use Rattle.five_numbers.proofs.CallLaws.{built}
 use Rattle.rules.specs.Rule.{held}
 use Rattle.ranges.specs.Prefixes.{careWord, valueWord}
 use Rattle.ranges.proofs.PrefixLaws.{care-fits}
 use Rattle.five_fields.specs.FiveFieldRule.{FiveFieldRule}
-use Rattle.five_fields.specs.Fields.{addressBits, protocolBits, joined}
+use Rattle.five_numbers.specs.Fields.{addressBits, protocolBits, joined, headerOf, inFields}
 use Rattle.five_fields.specs.FiveFieldRules.{anyProtocol}
 use Rattle.five_fields.specs.Expansion.{protocolBy, protocolPrefix}
 use Rattle.five_fields.specs.Inner.{entryBy}
@@ -48,6 +54,22 @@ module _ (p : ℕ) where
 
 pub address-within : (c k : ℕ) → c ≡ 2 ^ addressBits - 2 ^ (addressBits - k) → c < 2 ^ addressBits
 address-within c k e = omega (arith, e, pow-pos (addressBits - k))
+
+-- ---- five numbers as a word
+
+-- what `header` gives for numbers of their fields
+module _ (n : Numbers) (r : Built) (e : r ≡ builtAnswer (headerReply n)) (w : inFields n ≡ true) where
+  pub word-given : (x : Wire) → r ≡ Built.Header x → x .0 ≡ halves (headerOf n)
+  word-given x f = same (sym f ∙ e ∙ sym (built n w))
+    where
+      same : {y : Word} → Built.Header x ≡ Built.Header (record { 0 = y }) → x .0 ≡ y
+      same {y} g = let h : x ≡ record { 0 = y } = cc in ap (λ (z : Wire). z .0) h
+
+  pub word-never : {x : Refusal} → r ≡ Built.Refused x → ⊥
+  word-never {x} f = apart (built n w ∙ sym e ∙ f)
+    where
+      apart : {y : Wire} → Built.Header y ≡ Built.Refused x → ⊥
+      apart {y} g = let k : _≡_ {A = ℕ} 0 1 = cc in omega arith
 
 -- ---- the entry
 

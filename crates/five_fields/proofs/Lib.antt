@@ -1,6 +1,5 @@
 -- The laws of five-field rules, for this crate's proofs and for the crates above it.
 pub mod Examples
-pub mod FieldLaws
 pub mod ListLaws
 pub mod CheckLaws
 pub mod MatchLaws

@@ -20,11 +20,11 @@ use Rattle.ranges.specs.Ranges.{rangePrefixes}
 use Rattle.ranges.proofs.PrefixLaws.{care-fits, prefix-matches-exactly}
 use Rattle.ranges.proofs.Theorems.{prefix-valid, range-fit, range-covers}
 use Rattle.five_fields.specs.FiveFieldRule.{FiveFieldRule}
-use Rattle.five_fields.specs.Numbers.{Numbers}
-use Rattle.five_fields.specs.Fields.{addressBits, portBits, protocolBits, headerBits, joined, headerOf}
+use Rattle.five_numbers.specs.Numbers.{Numbers}
+use Rattle.five_numbers.specs.Fields.{addressBits, portBits, protocolBits, headerBits, joined, headerOf}
 use Rattle.five_fields.specs.FiveFieldRules.{anyProtocol, inPrefix, ofProtocol, satisfies, decides}
 use Rattle.five_fields.specs.Expansion.{addressPrefix, protocolBy, protocolPrefix, entry, sourcePrefixes, destinationPrefixes, expansion, expanded}
-use Rattle.five_fields.proofs.FieldLaws.{Within, Inside, within-and, joined-and, joined-eqb, joined-lt}
+use Rattle.five_numbers.proofs.FieldLaws.{Within, Inside, within-and, joined-and, joined-eqb, joined-lt}
 use Rattle.five_fields.proofs.ListLaws.{all-flat}
 use Rattle.five_fields.proofs.CheckLaws.{PortRange, Good, protocol-prefix}
 

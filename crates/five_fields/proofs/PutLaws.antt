@@ -16,7 +16,7 @@ use Rattle.rules.proofs.SliceLaws.{told, Kept, kept-lent, placed-rules, placed-
 use Rattle.ranges.specs.Prefixes.{Prefix, careWord, valueWord}
 use Rattle.ranges.specs.Ranges.{rangePrefixes}
 use Rattle.five_fields.specs.FiveFieldRule.{FiveFieldRule}
-use Rattle.five_fields.specs.Fields.{portBits}
+use Rattle.five_numbers.specs.Fields.{portBits}
 use Rattle.five_fields.specs.Slices.{Slices, rows, ruleAt, rulesFrom, rulesIn}
 use Rattle.five_fields.specs.Expansion.{entry, sourcePrefixes, destinationPrefixes, expansion, expanded}
 use Rattle.five_fields.specs.Inner.{entryBy, entriesInside, entriesBy, Put, PortWords}

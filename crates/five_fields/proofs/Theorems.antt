@@ -1,4 +1,4 @@
--- The theorems of five-field rules: what a header gets from the ternary list, that each header is that of five numbers, and the calls together.
+-- The theorems of five-field rules: what a header gets from the ternary list, and the calls together.
 use mathlib.Core.Path.{_≡_, sym, ap, _∙_}
 use mathlib.Core.List.{List, [], _∷_, map}
 use mathlib.Core.Bool.{true}
@@ -6,73 +6,35 @@ use Prim.Native.Nat.{ℕ, _*_, _^_, _≤_, _<_}
 use native.Mathlib.Omega.{arith}
 use lib.ListN.{length, take, drop, length-map}
 use lib.Seq.{take-at, drop-at}
-use Rattle.words.specs.Halves.{num, halves}
+use Rattle.words.specs.Halves.{num}
 use Rattle.words.specs.Slices.{halvesOf}
-use Rattle.words.proofs.Tests.{split as by}
-use Rattle.words.proofs.WordLaws.{num-halves}
 use Rattle.words.proofs.SliceLaws.{halves-length}
 use Rattle.rules.specs.Rule.{Rule}
 use Rattle.rules.specs.declared.Wire.{Wire}
-use Rattle.rules.specs.declared.Refusal.{Refusal}
 use Rattle.rules.specs.Rules.{answer, Valid}
 use Rattle.rules.specs.Lists.{All}
 use Rattle.rules.specs.Slices.{rulesOf, careOf, valueOf, decisionOf, caresOf, valuesOf, decisionsOf, filled}
-use Rattle.rules.specs.Replies.{Gives, Refuses, passed, need, _then_}
+use Rattle.rules.specs.Replies.{Gives, Refuses, passed, _then_}
 use Rattle.rules.specs.Calls.{checkList, lookedUp, decided, answered}
-use Rattle.rules.proofs.ReplyLaws.{then-next, then-refuses, then-assoc, then-second, one-value, bare-first, need-yes, need-no, same-given}
+use Rattle.rules.proofs.ReplyLaws.{then-next, then-refuses, then-assoc, then-second, one-value, bare-first, same-given}
 use Rattle.rules.proofs.ZipLaws.{ap₃}
 use Rattle.rules.proofs.CheckLaws.{sound-list, width-inside, results-fine, results-seven}
 use Rattle.rules.proofs.SliceLaws.{rules-columns}
 use Rattle.rules.proofs.AnswerLaws.{looked-answered}
 use Rattle.five_fields.specs.declared.Expanded.{Expanded}
-use Rattle.five_fields.specs.declared.Built.{Built}
-use Rattle.five_fields.specs.Numbers.{Numbers}
-use Rattle.five_fields.specs.Fields.{headerBits, headerOf, inFields, numbersOf}
+use Rattle.five_numbers.specs.declared.Built.{Built}
+use Rattle.five_numbers.specs.Numbers.{Numbers}
+use Rattle.five_numbers.specs.Fields.{headerBits, headerOf, inFields, numbersOf}
 use Rattle.five_fields.specs.FiveFieldRules.{decides}
 use Rattle.five_fields.specs.Slices.{Slices, rulesIn}
 use Rattle.five_fields.specs.Expansion.{expanded}
-use Rattle.five_fields.specs.Calls.{expandedReply, builtAnswer, rulesCheck, sourceCheck, countReply, expandCheck, expandReply, ExpandDone, headerReply}
-use Rattle.five_fields.proofs.FieldLaws.{in-fields, fields-in, joined-lt, header-back, header-within, numbers-back}
+use Rattle.five_fields.specs.Calls.{expandedReply, rulesCheck, sourceCheck, countReply, expandCheck, expandReply, ExpandDone}
+use Rattle.five_numbers.specs.Calls.{builtAnswer, headerReply}
+use Rattle.five_numbers.proofs.Theorems.{header-fits, header-numbers, header-told}
+use Rattle.five_numbers.proofs.FieldLaws.{in-fields}
 use Rattle.five_fields.proofs.CheckLaws.{rules-sound}
 use Rattle.five_fields.proofs.MatchLaws.{expanded-first, expanded-all}
 use Rattle.five_fields.proofs.CallLaws.{counted, bare-source, source-rules, entryCount}
-
--- ---- headers and their five numbers
-
--- The header of five numbers of their fields has 104 places.
-pub header-fits : (n : Numbers) → inFields n ≡ true → headerOf n < 2 ^ headerBits
-header-fits n e = joined-lt _ _ _ _ _ (in-fields n e)
-
--- Each header of 104 places is that of five numbers of their fields, and of no others.
-pub record HeaderOfOne (h : ℕ) : Type 0 where
-  pub inside : inFields (numbersOf h) ≡ true
-  pub theirs : headerOf (numbersOf h) ≡ h
-  pub alone : (n : Numbers) → inFields n ≡ true → headerOf n ≡ h → n ≡ numbersOf h
-
-pub header-numbers : (h : ℕ) → h < 2 ^ headerBits → HeaderOfOne h
-header-numbers h l =
-    record {
-      inside = fields-in (numbersOf h) (header-within h l);
-      theirs = header-back h;
-      alone = λ n e f. sym (numbers-back n (in-fields n e)) ∙ ap numbersOf f;
-    }
-
--- What `header` gives is the header of the five numbers, which are of their fields.
-pub header-told : (n : Numbers) (x : Wire) → Built.Header x ≡ builtAnswer (headerReply n) → (inFields n ≡ true) × (num (x .0) ≡ headerOf n)
-unfolding headerReply
-header-told n x e =
-    by (inFields n)
-    (λ t. (t, same-header (ap builtAnswer (then-next (need (inFields n) 6 0 0) _ (need-yes _ 6 0 0 t)))))
-    (λ f. absurd (no-header (e ∙ ap builtAnswer (then-refuses (need (inFields n) 6 0 0) _ (need-no _ 6 0 0 f)))))
-  where
-    only : {y z : Wire} → Built.Header y ≡ Built.Header z → y ≡ z
-    only f = cc
-
-    same-header : builtAnswer (headerReply n) ≡ Built.Header (record { 0 = halves (headerOf n) }) → num (x .0) ≡ headerOf n
-    same-header f = let w : x ≡ record { 0 = halves (headerOf n) } = only (e ∙ f) in ap (λ (y : Wire). num (y .0)) w ∙ num-halves (headerOf n)
-
-    no-header : {y : Wire} {z : Refusal} → Built.Header y ≡ Built.Refused z → ⊥
-    no-header {y} {z} f = let k : _≡_ {A = ℕ} 0 1 = cc in omega arith
 
 -- ---- what a header gets
 

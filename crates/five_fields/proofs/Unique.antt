@@ -4,10 +4,8 @@ use mathlib.Core.List.{List}
 use Prim.Native.Nat.{ℕ}
 use Rattle.rules.proofs.ReplyLaws.{one-refusal, one-value, gives-refuses}
 use Rattle.five_fields.specs.declared.Expanded.{Expanded}
-use Rattle.five_fields.specs.declared.Built.{Built}
-use Rattle.five_fields.specs.Numbers.{Numbers}
 use Rattle.five_fields.specs.Slices.{Slices}
-use Rattle.five_fields.specs.Calls.{expandedReply, builtAnswer, countReply, ExpandDone, headerReply}
+use Rattle.five_fields.specs.Calls.{expandedReply, countReply, ExpandDone}
 
 -- two answers with the same number of entries, or the same refusal, are one
 one-expanded : (a b : Expanded) → expandedReply a ≡ expandedReply b → a ≡ b
@@ -25,7 +23,3 @@ pub expand-once : (s : Slices) (cs vs ds a₁ b₁ c₁ a₂ b₂ c₂ : List �
     → ExpandDone s cs vs ds a₁ b₁ c₁ x → ExpandDone s cs vs ds a₂ b₂ c₂ y → (x ≡ y) × ((a₁ ≡ a₂) × ((b₁ ≡ b₂) × (c₁ ≡ c₂)))
 expand-once s cs vs ds a₁ b₁ c₁ a₂ b₂ c₂ x y p q =
     (one-expanded x y (p .reply ∙ sym (q .reply)), (p .cares ∙ sym (q .cares), (p .values ∙ sym (q .values), p .decisions ∙ sym (q .decisions))))
-
--- `header`: two answers that meet the promise are equal
-pub header-once : (n : Numbers) (x y : Built) → x ≡ builtAnswer (headerReply n) → y ≡ builtAnswer (headerReply n) → x ≡ y
-header-once n x y p q = p ∙ sym q

@@ -3,17 +3,13 @@ use mathlib.Core.Path.{_≡_}
 use mathlib.Core.List.{List, [], _∷_}
 use Prim.Native.Nat.{ℕ, _+_}
 use lib.Dec.{ltb}
-use lib.ListN.{length, getD}
-use Rattle.words.specs.Halves.{halves}
+use lib.ListN.{length}
 use Rattle.rules.specs.Rules.{noMatch}
 use Rattle.rules.specs.Slices.{caresOf, valuesOf, decisionsOf, filled}
-use Rattle.rules.specs.Replies.{Reply, Gives, Refuses, passed, need, _then_, refusal, refusalReply, unlessRefused}
+use Rattle.rules.specs.Replies.{Reply, Gives, passed, need, _then_, refusalReply, unlessRefused}
 use Rattle.rules.specs.Checks.{sizeCheck, lengthsCheck, roomCheck}
 use Rattle.five_fields.specs.FiveFieldRule.{FiveFieldRule}
-use Rattle.five_fields.specs.Numbers.{Numbers}
 use Rattle.five_fields.specs.declared.Expanded.{Expanded}
-use Rattle.five_fields.specs.declared.Built.{Built}
-use Rattle.five_fields.specs.Fields.{headerOf, inFields}
 use Rattle.five_fields.specs.FiveFieldRules.{fieldsFit, portsFit}
 use Rattle.five_fields.specs.Slices.{Slices, rows, alike, rulesIn}
 use Rattle.five_fields.specs.Expansion.{expanded}
@@ -24,11 +20,6 @@ use Rattle.five_fields.specs.Expansion.{expanded}
 abbrev pub expandedReply : Expanded → Reply
 expandedReply (Expanded.Entries n) = Gives (n ∷ [])
 expandedReply (Expanded.Refused x) = refusalReply x
-
--- A header: the number of the reply in its word, or the refusal.
-abbrev pub builtAnswer : Reply → Built
-builtAnswer (Gives ns) = Built.Header (record { 0 = halves (getD ns 0 0) })
-builtAnswer (Refuses n l r) = Built.Refused (refusal n l r)
 
 -- ---- a list of five-field rules
 
@@ -75,7 +66,3 @@ pub record ExpandDone (s : Slices) (cs vs ds cs′ vs′ ds′ : List ℕ) (answ
   pub cares : cs′ ≡ unlessRefused (expandReply s cs vs ds) (filled (caresOf (expanded (rulesIn s))) cs) cs
   pub values : vs′ ≡ unlessRefused (expandReply s cs vs ds) (filled (valuesOf (expanded (rulesIn s))) vs) vs
   pub decisions : ds′ ≡ unlessRefused (expandReply s cs vs ds) (filled (decisionsOf (expanded (rulesIn s))) ds) ds
-
--- The header of five numbers: 6 where one of them is outside its field.
-unfoldable pub headerReply : Numbers → Reply
-headerReply n = need (inFields n) 6 0 0 then Gives (headerOf n ∷ [])

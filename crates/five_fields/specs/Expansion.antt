@@ -8,7 +8,7 @@ use Rattle.rules.specs.Rules.{rule}
 use Rattle.ranges.specs.Prefixes.{Prefix, prefix, careWord, valueWord}
 use Rattle.ranges.specs.Ranges.{rangePrefixes}
 use Rattle.five_fields.specs.FiveFieldRule.{FiveFieldRule}
-use Rattle.five_fields.specs.Fields.{addressBits, portBits, protocolBits, joined}
+use Rattle.five_numbers.specs.Fields.{addressBits, portBits, protocolBits, joined}
 use Rattle.five_fields.specs.FiveFieldRules.{anyProtocol}
 
 -- An address of which so many first bits count has stars behind them.

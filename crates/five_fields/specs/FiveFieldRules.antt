@@ -7,8 +7,8 @@ use Rattle.rules.specs.Rules.{choose, noMatch}
 use Rattle.ranges.specs.Prefixes.{inRange}
 use Rattle.ranges.specs.Calls.{isRange}
 use Rattle.five_fields.specs.FiveFieldRule.{FiveFieldRule}
-use Rattle.five_fields.specs.Numbers.{Numbers}
-use Rattle.five_fields.specs.Fields.{addressBits, portBits, protocolBits}
+use Rattle.five_numbers.specs.Numbers.{Numbers}
+use Rattle.five_numbers.specs.Fields.{addressBits, portBits, protocolBits}
 
 -- The number that stands for any protocol: the first one that is none.
 abbrev pub anyProtocol : ℕ

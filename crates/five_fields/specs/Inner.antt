@@ -10,7 +10,7 @@ use Rattle.rules.specs.Slices.{rulesOf}
 use Rattle.ranges.specs.Prefixes.{careWord, valueWord}
 use Rattle.ranges.specs.Ranges.{rangePrefixes}
 use Rattle.five_fields.specs.FiveFieldRule.{FiveFieldRule}
-use Rattle.five_fields.specs.Fields.{addressBits, portBits, protocolBits, joined}
+use Rattle.five_numbers.specs.Fields.{addressBits, portBits, protocolBits, joined}
 use Rattle.five_fields.specs.FiveFieldRules.{anyProtocol}
 use Rattle.five_fields.specs.Expansion.{addressPrefix, protocolPrefix}
 

@@ -1,6 +1,4 @@
-pub mod Numbers
 pub mod FiveFieldRule
-pub mod Fields
 pub mod FiveFieldRules
 pub mod Slices
 pub mod Expansion

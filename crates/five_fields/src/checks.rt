@@ -3,10 +3,11 @@ ghost use mathlib.Core.Path.{_≡_};
 ghost use Prim.Native.Nat.{_^_, _≤_};
 ghost use mathlib.Core.List.{[], _∷_};
 ghost use lib.ListN.{getD};
-ghost use Rattle.rules.specs.Replies.{verdictReply};
+ghost use Rattle.rules.specs.Replies.{verdictReply, need, _then_};
+ghost use Rattle.rules.specs.Checks.{sizeCheck};
 ghost use Rattle.ranges.specs.Calls.{isRange};
 ghost use Rattle.five_fields.specs.FiveFieldRule.{ruleOf};
-ghost use Rattle.five_fields.specs.Fields.{addressBits, portBits};
+ghost use Rattle.five_numbers.specs.Fields.{addressBits, portBits};
 ghost use Rattle.five_fields.specs.FiveFieldRules.{isPrefix, fieldsFit};
 ghost use Rattle.five_fields.specs.Slices.{slices, each, ruleAt, rulesIn};
 ghost use Rattle.five_fields.specs.Calls.{fiveFieldCheck, fiveFieldsCheck, rulesCheck};
@@ -164,6 +165,36 @@ fn three_are(n: usize, a: usize, b: usize, c: usize) -> bool
     a == n && (b == n && c == n)
 }
 
+// What can be wrong with ten lengths, of which n is the last: 2 where one of the others is not n, then 3 for more than 1,024.
+fn lengths_verdict(
+    n: usize,
+    a: usize,
+    b: usize,
+    c: usize,
+    d: usize,
+    e: usize,
+    f: usize,
+    g: usize,
+    h: usize,
+    i: usize,
+) -> Verdict
+    ensures { λ r. ⌜ verdictReply r ≡ (need (each n (a ∷ b ∷ c ∷ d ∷ e ∷ f ∷ g ∷ h ∷ i ∷ [])) 2 0 0 then sizeCheck 1 n) ⌝ }
+{
+    if !three_are(n, a, b, c) {
+        return refused(2, 0, 0);
+    }
+    if !three_are(n, d, e, f) {
+        return refused(2, 0, 0);
+    }
+    if !three_are(n, g, h, i) {
+        return refused(2, 0, 0);
+    }
+    if 1024 < n {
+        return refused(3, 1, 0);
+    }
+    Verdict::Fine
+}
+
 // What can be wrong with the slices and the rules: 2, then 3 for more than 1,024 rules, then rule by rule.
 pub(crate) fn rules_verdict(
     source: &[u32],
@@ -180,29 +211,21 @@ pub(crate) fn rules_verdict(
     ensures { λ r. ⌜ verdictReply r ≡ rulesCheck (slices (now (source .entry)) (now («source_length» .entry)) (now (destination .entry)) (now («destination_length» .entry))
         (now («source_low» .entry)) (now («source_high» .entry)) (now («destination_low» .entry)) (now («destination_high» .entry)) (now (protocol .entry)) (now (decision .entry))) ⌝ }
 {
-    let n = decision.len();
-    if !three_are(n, source.len(), source_length.len(), destination.len()) {
-        return refused(2, 0, 0);
-    }
-    if !three_are(
-        n,
+    let v = lengths_verdict(
+        decision.len(),
+        source.len(),
+        source_length.len(),
+        destination.len(),
         destination_length.len(),
         source_low.len(),
         source_high.len(),
-    ) {
-        return refused(2, 0, 0);
-    }
-    if !three_are(
-        n,
         destination_low.len(),
         destination_high.len(),
         protocol.len(),
-    ) {
-        return refused(2, 0, 0);
-    }
-    if 1024 < n {
-        return refused(3, 1, 0);
-    }
+    );
+    let Verdict::Fine = v else {
+        return v;
+    };
     each_verdict(
         source,
         source_length,

@@ -6,7 +6,7 @@ ghost use Rattle.rules.specs.Replies.{passed};
 ghost use Rattle.ranges.specs.Ranges.{rangePrefixes};
 ghost use Rattle.ranges.specs.Calls.{isRange};
 ghost use Rattle.five_fields.specs.FiveFieldRule.{ruleOf};
-ghost use Rattle.five_fields.specs.Fields.{portBits};
+ghost use Rattle.five_numbers.specs.Fields.{portBits};
 ghost use Rattle.five_fields.specs.FiveFieldRules.{portsFit};
 ghost use Rattle.five_fields.specs.Slices.{slices, rulesIn};
 ghost use Rattle.five_fields.specs.Expansion.{expansion, expanded};

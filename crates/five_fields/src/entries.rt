@@ -1,31 +1,48 @@
 // The entries of one rule, put into the result slices: every pair of port prefixes, source first and destination inside.
 ghost use mathlib.Core.Path.{_≡_};
+ghost use mathlib.Core.Bool.{true};
 ghost use Prim.Native.Nat.{_+_, _*_, _-_, _^_, _≤_};
 ghost use lib.ListN.{length, take};
 ghost use Rattle.rules.specs.Rule.{held};
 ghost use Rattle.rules.specs.Slices.{Lent};
 ghost use Rattle.ranges.specs.Prefixes.{careWord, valueWord};
 ghost use Rattle.five_fields.specs.FiveFieldRule.{ruleOf};
-ghost use Rattle.five_fields.specs.Fields.{addressBits, protocolBits};
+ghost use Rattle.words.specs.Halves.{halves};
+ghost use Rattle.five_numbers.specs.Numbers.{fiveOf};
+ghost use Rattle.five_numbers.specs.Fields.{addressBits, protocolBits, headerOf, inFields};
 ghost use Rattle.five_fields.specs.FiveFieldRules.{anyProtocol};
 ghost use Rattle.five_fields.specs.Expansion.{protocolPrefix};
 ghost use Rattle.five_fields.specs.Inner.{Bounded, entryBy, entriesInside, entriesBy, Put};
 use crate::FiveFieldRule;
 use crate::checks::power;
-use crate::headers::joined;
+use five_numbers::Built;
+use five_numbers::Numbers;
+use five_numbers::header;
 use rules::Rule;
 use rules::put_rule;
+use words::Word;
+
+// Five numbers of their fields as one word: they stand side by side as in a header.
+fn joined(numbers: Numbers) -> Word
+    requires { ⌜ inFields (fiveOf numbers) ≡ true ⌝ }
+    ensures { λ r. ⌜ r ≡ halves (headerOf (fiveOf numbers)) ⌝ }
+{
+    match header(numbers) {
+        Built::Header(h) => h.0,
+        Built::Refused(_) => Word { low: 0, high: 0 },
+    }
+}
 
 // The care word of an address of which so many first bits count.
-fn address_care(length: u32) -> u64
+fn address_care(length: u32) -> u32
     requires { ⌜ length ≤ addressBits ⌝ }
     ensures { λ r. ⌜ r ≡ 2 ^ addressBits - 2 ^ (addressBits - length) ⌝ }
 {
-    4294967296 - power(32 - length)
+    (4294967296 - power(32 - length)) as u32
 }
 
 // The care word of a protocol: none of its places for any, else all.
-fn protocol_care(protocol: u32) -> u64
+fn protocol_care(protocol: u32) -> u32
     requires { ⌜ protocol ≤ anyProtocol ⌝ }
     ensures { λ r. ⌜ r ≡ careWord protocolBits (protocolPrefix protocol) ⌝ }
 {
@@ -36,14 +53,14 @@ fn protocol_care(protocol: u32) -> u64
 }
 
 // The value word of a protocol: 0 for any.
-fn protocol_value(protocol: u32) -> u64
+fn protocol_value(protocol: u32) -> u32
     requires { ⌜ protocol ≤ anyProtocol ⌝ }
     ensures { λ r. ⌜ r ≡ valueWord (protocolPrefix protocol) ⌝ }
 {
     if protocol == 256 {
         return 0;
     }
-    protocol as u64
+    protocol
 }
 
 // The entry of a rule with the care and value words of a source prefix and of a destination prefix.
@@ -57,20 +74,20 @@ fn entry(
     requires { ⌜ Bounded (ruleOf rule) ⌝ }
     ensures { λ r. ⌜ r ≡ held (entryBy (ruleOf rule) «source_care» «source_value» «destination_care» «destination_value») ⌝ }
 {
-    let care = joined(
-        address_care(rule.source_length),
-        address_care(rule.destination_length),
-        source_care as u64,
-        destination_care as u64,
-        protocol_care(rule.protocol),
-    );
-    let value = joined(
-        rule.source as u64,
-        rule.destination as u64,
-        source_value as u64,
-        destination_value as u64,
-        protocol_value(rule.protocol),
-    );
+    let care = joined(Numbers {
+        source: address_care(rule.source_length),
+        destination: address_care(rule.destination_length),
+        source_port: source_care as u32,
+        destination_port: destination_care as u32,
+        protocol: protocol_care(rule.protocol),
+    });
+    let value = joined(Numbers {
+        source: rule.source,
+        destination: rule.destination,
+        source_port: source_value as u32,
+        destination_port: destination_value as u32,
+        protocol: protocol_value(rule.protocol),
+    });
     Rule {
         care,
         value,

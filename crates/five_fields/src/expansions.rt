@@ -1,17 +1,19 @@
 // A list of five-field rules as a ternary list.
 ghost use mathlib.Core.Path.{_≡_};
-ghost use mathlib.Core.Bool.{true};
-ghost use Prim.Native.Nat.{_+_, _≤_};
+ghost use mathlib.Core.Bool.{true, _&&_};
+ghost use lib.Dec.{eqb};
+ghost use Prim.Native.Nat.{_+_, _*_, _^_, _≤_, _<_};
 ghost use lib.ListN.{length};
-ghost use Rattle.rules.specs.Replies.{Refuses, passed};
+ghost use Rattle.rules.specs.Replies.{passed, verdictReply, need, _then_};
+ghost use Rattle.rules.specs.Checks.{roomCheck};
 ghost use Rattle.rules.specs.Slices.{Lent};
 ghost use Rattle.ranges.specs.Calls.{isRange};
 ghost use Rattle.five_fields.specs.FiveFieldRule.{ruleOf};
-ghost use Rattle.five_fields.specs.Fields.{portBits};
+ghost use Rattle.five_numbers.specs.Fields.{portBits};
 ghost use Rattle.five_fields.specs.FiveFieldRules.{fieldsFit, portsFit};
 ghost use Rattle.five_fields.specs.Slices.{slices, rulesIn};
 ghost use Rattle.five_fields.specs.Expansion.{expansion, expanded};
-ghost use Rattle.five_fields.specs.Calls.{expandedReply, rulesCheck, ExpandDone};
+ghost use Rattle.five_fields.specs.Calls.{rulesCheck, ExpandDone};
 ghost use Rattle.five_fields.specs.Inner.{Put, PortWords};
 use crate::Expanded;
 use crate::FiveFieldRule;
@@ -20,7 +22,8 @@ use crate::counts::expansion_count;
 use crate::entries::put_pairs;
 use ranges::Covered;
 use ranges::range_prefixes;
-use rules::Refusal;
+use rules::Verdict;
+use rules::refused;
 
 // Puts the words of the prefixes of a range of ports into two slices, and returns how many they are. No range takes more than 30.
 fn put_ports(low: u32, high: u32, cares: &mut [u16], values: &mut [u16]) -> usize
@@ -125,15 +128,21 @@ fn put_all(
     }
 }
 
-// A refusal without a place.
-fn not_expanded(number: usize) -> Expanded
-    ensures { λ r. ⌜ expandedReply r ≡ Refuses number 0 0 ⌝ }
+// What can be wrong with the lengths of three result slices for n entries: 2, then 7.
+fn results_verdict(n: usize, cares: usize, values: usize, decisions: usize) -> Verdict
+    requires { ⌜ decisions * 2 < 2 ^ 64 ⌝ }
+    ensures { λ r. ⌜ verdictReply r ≡ (need (eqb cares values && eqb cares (decisions * 2)) 2 0 0 then roomCheck n decisions) ⌝ }
 {
-    Expanded::Refused(Refusal {
-        number,
-        list: 0,
-        rule: 0,
-    })
+    if cares != values {
+        return refused(2, 0, 0);
+    }
+    if cares != decisions * 2 {
+        return refused(2, 0, 0);
+    }
+    if decisions < n {
+        return refused(7, 0, 0);
+    }
+    Verdict::Fine
 }
 
 // The ternary list of five-field rules, in the last three slices: 2 and 3, the rules one by one, 3 for more than 1,024 entries, then 2 and
@@ -173,14 +182,9 @@ pub fn expand(
     let Expanded::Entries(n) = counted else {
         return counted;
     };
-    if out_care.len() != out_value.len() {
-        return not_expanded(2);
-    }
-    if out_care.len() != out_decision.len() * 2 {
-        return not_expanded(2);
-    }
-    if out_decision.len() < n {
-        return not_expanded(7);
+    let v = results_verdict(n, out_care.len(), out_value.len(), out_decision.len());
+    if let Verdict::Refused(x) = v {
+        return Expanded::Refused(x);
     }
     put_all(
         source,

@@ -1,6 +1,6 @@
-use Rattle.five_fields.proofs.CheckLaws.{alike-threes, check-lengths, check-size, check-rules}
-use Rattle.words.proofs.Tests.{true-and, and-on, and-off}
-use borrow.Author.Tests.{not-true, not-false}
+use Rattle.five_fields.specs.Slices.{alike}
+use Rattle.five_fields.proofs.CheckLaws.{check-parts}
+use Rattle.rules.proofs.ReplyLaws.{verdict-stop, fine-next}
 use mathlib.Core.Path.{sym, _∙_}
 use borrow.Author.Needs.{needs}
 use Rattle.five_fields.proofs.checks.rules_verdict.Statement.{statement}
@@ -8,62 +8,35 @@ use Rattle.five_fields.proofs.checks.rules_verdict.Tie as tie
 use Rattle.five_fields.proofs.checks.rules_verdict.Reads as reads
 use Rattle.five_fields.proofs.checks.rules_verdict.Lts as lts
 use Rattle.five_fields.proofs.checks.each_verdict.Reads as each-verdict-reads
-use Rattle.five_fields.proofs.checks.three_are.Reads as three-are-reads
-use Rattle.rules.proofs.refused.Reads as refused-reads
+use Rattle.five_fields.proofs.checks.lengths_verdict.Reads as lengths-verdict-reads
 
-three-are-requires : tie.Need-three-are-requires
-three-are-requires c κs = search needs
+lengths-verdict-requires : tie.Need-lengths-verdict-requires
+lengths-verdict-requires c κs = search needs
 
-refused-requires : tie.Need-refused-requires
-refused-requires c κs = search needs
+enum-told : tie.Need-enum-told
+enum-told c = search needs
+
+enum-told-2 : tie.Need-enum-told-2
+enum-told-2 c = search needs
 
 returns : tie.Need-returns
-returns c = c .refused .ensures ∙ sym (check-lengths _ (alike-threes _ ∙ sym (and-off _ (sym (c .before .before .three-are .ensures) ∙ not-true _ (c .before .if1 .taken)))))
-
-three-are-requires-2 : tie.Need-three-are-requires-2
-three-are-requires-2 c κs = search needs
-
-refused-requires-2 : tie.Need-refused-requires-2
-refused-requires-2 c κs = search needs
-
-returns-2 : tie.Need-returns-2
-returns-2 c = c .refused2 .ensures ∙ sym (check-lengths _ (alike-threes _ ∙ sym (and-off _ (sym (c .before .before .three-are2 .ensures) ∙ not-true _ (c .before .if2 .taken)) ∙ and-on (sym (c .before .before .before .before .three-are .ensures) ∙ not-false _ (c .before .before .before .if1 .left)))))
-
-three-are-requires-3 : tie.Need-three-are-requires-3
-three-are-requires-3 c κs = search needs
-
-refused-requires-3 : tie.Need-refused-requires-3
-refused-requires-3 c κs = search needs
-
-returns-3 : tie.Need-returns-3
-returns-3 c = c .refused3 .ensures ∙ sym (check-lengths _ (alike-threes _ ∙ sym (sym (sym (c .before .before .three-are3 .ensures) ∙ not-true _ (c .before .if3 .taken)) ∙ and-on (sym (c .before .before .before .before .three-are2 .ensures) ∙ not-false _ (c .before .before .before .if2 .left)) ∙ and-on (sym (c .before .before .before .before .before .before .three-are .ensures) ∙ not-false _ (c .before .before .before .before .before .if1 .left)))))
-
-refused-requires-4 : tie.Need-refused-requires-4
-refused-requires-4 c κs = search needs
-
-returns-4 : tie.Need-returns-4
-returns-4 c = c .refused4 .ensures ∙ sym (check-size _ (alike-threes _ ∙ true-and (sym (c .before .before .before .before .before .before .before .three-are .ensures) ∙ not-false _ (c .before .before .before .before .before .before .if1 .left)) (true-and (sym (c .before .before .before .before .before .three-are2 .ensures) ∙ not-false _ (c .before .before .before .before .if2 .left)) (sym (c .before .before .before .three-are3 .ensures) ∙ not-false _ (c .before .before .if3 .left)))) (c .before .if4 .taken))
+unfolding alike
+returns c = sym (check-parts _ ∙ verdict-stop _ _ _ (c .before .before .lengths-verdict .ensures) (c .enum-told2 .given .1))
 
 each-verdict-requires : tie.Need-each-verdict-requires
 each-verdict-requires c κs = search needs
 
-returns-5 : tie.Need-returns-5
-returns-5 c = c .each-verdict .ensures ∙ sym (check-rules _ (alike-threes _ ∙ true-and (sym (c .before .before .before .before .before .before .before .three-are .ensures) ∙ not-false _ (c .before .before .before .before .before .before .if1 .left)) (true-and (sym (c .before .before .before .before .before .three-are2 .ensures) ∙ not-false _ (c .before .before .before .before .if2 .left)) (sym (c .before .before .before .three-are3 .ensures) ∙ not-false _ (c .before .before .if3 .left)))) (c .before .if4 .left))
+returns-2 : tie.Need-returns-2
+unfolding alike
+returns-2 c = c .each-verdict .ensures ∙ sym (check-parts _ ∙ fine-next _ _ _ (c .before .before .before .lengths-verdict .ensures) (c .before .enum-told .given .1))
 
 pub rules-verdict-spec : {M : Type 1} → statement M
 rules-verdict-spec =
     tie.close
     (tie.spec
-    three-are-requires
-    refused-requires
+    lengths-verdict-requires
+    enum-told
+    enum-told-2
     returns
-    three-are-requires-2
-    refused-requires-2
-    returns-2
-    three-are-requires-3
-    refused-requires-3
-    returns-3
-    refused-requires-4
-    returns-4
     each-verdict-requires
-    returns-5)
+    returns-2)

@@ -13,8 +13,8 @@ use Rattle.words.proofs.Tests.{and-true, true-and}
 use Rattle.words.specs.Halves.{word, halves}
 use Rattle.words.proofs.WordLaws.{made}
 use Rattle.words.proofs.SeamLaws.{seam-low, seam-high, and-seam, eqb-seam}
-use Rattle.five_fields.specs.Numbers.{Numbers}
-use Rattle.five_fields.specs.Fields.{addressBits, portBits, protocolBits, headerBits, beside, joined, numbers, headerOf, inFields, numbersOf, toDestinationPort, toSourcePort, toDestination}
+use Rattle.five_numbers.specs.Numbers.{Numbers}
+use Rattle.five_numbers.specs.Fields.{addressBits, portBits, protocolBits, headerBits, beside, joined, numbers, headerOf, inFields, numbersOf, toDestinationPort, toSourcePort, toDestination}
 
 -- ---- a number and a field right of it, over any sizes
 

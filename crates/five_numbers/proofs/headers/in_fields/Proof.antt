@@ -1,13 +1,13 @@
 use Prim.Native.Nat.{_^_}
-use Rattle.five_fields.specs.Fields.{addressBits, inFields}
+use Rattle.five_numbers.specs.Fields.{addressBits, inFields}
 use Rattle.words.proofs.Tests.{and-on, and-off}
 use borrow.Author.Tests.{lt-ltb, le-ltb}
 use native.Mathlib.Omega.{arith}
 use mathlib.Core.Path.{_∙_}
-use Rattle.five_fields.proofs.headers.in_fields.Statement.{statement}
-use Rattle.five_fields.proofs.headers.in_fields.Tie as tie
-use Rattle.five_fields.proofs.headers.in_fields.Reads as reads
-use Rattle.five_fields.proofs.headers.in_fields.Lts as lts
+use Rattle.five_numbers.proofs.headers.in_fields.Statement.{statement}
+use Rattle.five_numbers.proofs.headers.in_fields.Tie as tie
+use Rattle.five_numbers.proofs.headers.in_fields.Reads as reads
+use Rattle.five_numbers.proofs.headers.in_fields.Lts as lts
 
 returns : tie.Need-returns
 unfolding inFields

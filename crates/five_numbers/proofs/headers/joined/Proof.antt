@@ -1,9 +1,9 @@
-use Rattle.five_fields.proofs.FieldLaws.{joined-made}
+use Rattle.five_numbers.proofs.FieldLaws.{joined-made}
 use borrow.Author.Needs.{needs}
-use Rattle.five_fields.proofs.headers.joined.Statement.{statement}
-use Rattle.five_fields.proofs.headers.joined.Tie as tie
-use Rattle.five_fields.proofs.headers.joined.Reads as reads
-use Rattle.five_fields.proofs.headers.joined.Lts as lts
+use Rattle.five_numbers.proofs.headers.joined.Statement.{statement}
+use Rattle.five_numbers.proofs.headers.joined.Tie as tie
+use Rattle.five_numbers.proofs.headers.joined.Reads as reads
+use Rattle.five_numbers.proofs.headers.joined.Lts as lts
 
 mul-t8 : tie.Need-mul-t8
 mul-t8 c = search needs

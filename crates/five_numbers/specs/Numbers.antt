@@ -1,6 +1,6 @@
 -- The five numbers of a packet's header: what the definitions and the laws speak of (request 06).
 use Prim.Native.Nat.{ℕ}
-use Rattle.five_fields.specs.declared.Numbers.{Numbers as Held}
+use Rattle.five_numbers.specs.declared.Numbers.{Numbers as Held}
 
 pub record Numbers : Type 0 where
   pub source : ℕ

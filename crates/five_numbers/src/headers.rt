@@ -2,9 +2,9 @@
 ghost use mathlib.Core.Path.{_≡_};
 ghost use Prim.Native.Nat.{_^_, _<_};
 ghost use Rattle.words.specs.Halves.{halves};
-ghost use Rattle.five_fields.specs.Numbers.{fiveOf};
-ghost use Rattle.five_fields.specs.Fields.{addressBits, portBits, protocolBits, joined, inFields};
-ghost use Rattle.five_fields.specs.Calls.{builtAnswer, headerReply};
+ghost use Rattle.five_numbers.specs.Numbers.{fiveOf};
+ghost use Rattle.five_numbers.specs.Fields.{addressBits, portBits, protocolBits, joined, inFields};
+ghost use Rattle.five_numbers.specs.Calls.{builtAnswer, headerReply};
 use crate::Built;
 use crate::Numbers;
 use rules::Refusal;
@@ -12,7 +12,7 @@ use rules::Wire;
 use words::Word;
 
 // Five numbers as one word. The destination address stands across its halves: its first 8 bits in the high one, and 24 in the low one.
-pub(crate) fn joined(
+fn joined(
     source: u64,
     destination: u64,
     source_port: u64,

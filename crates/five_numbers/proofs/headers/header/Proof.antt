@@ -1,15 +1,15 @@
-use Rattle.five_fields.proofs.CallLaws.{built, not-built}
-use Rattle.five_fields.proofs.FieldLaws.{in-fields}
-use Rattle.five_fields.specs.declared.Built.{Built}
+use Rattle.five_numbers.proofs.CallLaws.{built, not-built}
+use Rattle.five_numbers.proofs.FieldLaws.{in-fields}
+use Rattle.five_numbers.specs.declared.Built.{Built}
 use Rattle.words.specs.declared.Word.{Word}
 use mathlib.Core.Path.{sym, ap, _∙_}
 use borrow.Author.Needs.{needs}
-use Rattle.five_fields.proofs.headers.header.Statement.{statement}
-use Rattle.five_fields.proofs.headers.header.Tie as tie
-use Rattle.five_fields.proofs.headers.header.Reads as reads
-use Rattle.five_fields.proofs.headers.header.Lts as lts
-use Rattle.five_fields.proofs.headers.in_fields.Reads as in-fields-reads
-use Rattle.five_fields.proofs.headers.joined.Reads as joined-reads
+use Rattle.five_numbers.proofs.headers.header.Statement.{statement}
+use Rattle.five_numbers.proofs.headers.header.Tie as tie
+use Rattle.five_numbers.proofs.headers.header.Reads as reads
+use Rattle.five_numbers.proofs.headers.header.Lts as lts
+use Rattle.five_numbers.proofs.headers.in_fields.Reads as in-fields-reads
+use Rattle.five_numbers.proofs.headers.joined.Reads as joined-reads
 
 in-fields-requires : tie.Need-in-fields-requires
 in-fields-requires c κs = search needs

@@ -2,7 +2,7 @@
 use mathlib.Core.Bool.{Bool, _&&_}
 use Prim.Native.Nat.{ℕ, _+_, _*_, _/_, _%_, _^_}
 use lib.Dec.{ltb}
-use Rattle.five_fields.specs.Numbers.{Numbers}
+use Rattle.five_numbers.specs.Numbers.{Numbers}
 
 -- The places of a field. These are the definitions that name them.
 abbrev pub addressBits : ℕ
