@@ -15,7 +15,7 @@ use Rattle.rules.specs.Lists.{All}
 use Rattle.rules.specs.Replies.{Reply, Refuses, passed, need, _then_, verdictReply}
 use Rattle.rules.specs.Checks.{sizeCheck}
 use Rattle.rules.proofs.ReplyLaws.{then-next, then-refuses, then-assoc, then-second, need-yes, need-no, need-passed, need-then, fine-next, verdict-stop, Bare, bare-first, bare-need, bare-then}
-use Rattle.ranges.specs.Prefixes.{PrefixIn}
+use Rattle.ranges.specs.Prefixes.{prefix, PrefixIn}
 use Rattle.ranges.specs.Calls.{isRange}
 use Rattle.five_fields.specs.FiveFieldRule.{FiveFieldRule}
 use Rattle.five_numbers.specs.Fields.{addressBits, portBits, protocolBits}
@@ -71,15 +71,18 @@ unfolding isPrefix
 prefix-short a k p h l e =
     ap (λ (x : ℕ). eqb (a % x) 0) e ∙ and-on (lt-ltb a (2 ^ addressBits) l) ∙ and-on (le-leb k addressBits h)
 
--- the protocol of a rule that passes is a prefix of its field
+-- any protocol is a prefix of its field, and so is one that is not any
+pub any-prefix : PrefixIn protocolBits (prefix protocolBits 0)
+any-prefix = record { fits = omega arith; within = omega arith; clear = refl }
+
+pub one-prefix : (p : ℕ) → p ≤ anyProtocol → eqb p anyProtocol ≡ false → PrefixIn protocolBits (prefix 0 p)
+one-prefix p h e =
+    let d : p ≢ anyProtocol = no-eqb p anyProtocol e in
+    record { fits = omega arith; within = omega arith; clear = omega arith }
+
+-- so the protocol of a rule that passes is one
 pub protocol-prefix : (p : ℕ) → p ≤ anyProtocol → PrefixIn protocolBits (protocolPrefix p)
-protocol-prefix p h =
-    by (eqb p anyProtocol)
-    (λ e. rw e (record { fits = omega arith; within = omega arith; clear = refl }))
-    (λ e. rw e (record { fits = omega arith; within = below e; clear = omega arith }))
-  where
-    below : eqb p anyProtocol ≡ false → p < 2 ^ protocolBits
-    below e = let d : p ≢ anyProtocol = no-eqb p anyProtocol e in omega arith
+protocol-prefix p h = by (eqb p anyProtocol) (λ e. rw e any-prefix) (λ e. rw e (one-prefix p h e))
 
 module _ (i : ℕ) (r : FiveFieldRule) where
   pub check-fields : fieldsFit r ≡ false → fiveFieldCheck i r ≡ Refuses 23 1 i

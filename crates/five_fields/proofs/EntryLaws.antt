@@ -15,7 +15,7 @@ use Rattle.rules.specs.declared.Refusal.{Refusal}
 use Rattle.five_numbers.specs.declared.Built.{Built}
 use Rattle.five_numbers.specs.Numbers.{Numbers}
 use Rattle.five_numbers.specs.Calls.{builtAnswer, headerReply}
-use Rattle.five_numbers.proofs.CallLaws.{built}
+use Rattle.five_numbers.proofs.CallLaws.{built, one-header, header-refused}
 use Rattle.rules.specs.Rule.{held}
 use Rattle.ranges.specs.Prefixes.{careWord, valueWord}
 use Rattle.ranges.proofs.PrefixLaws.{care-fits}
@@ -60,16 +60,10 @@ address-within c k e = omega (arith, e, pow-pos (addressBits - k))
 -- what `header` gives for numbers of their fields
 module _ (n : Numbers) (r : Built) (e : r ≡ builtAnswer (headerReply n)) (w : inFields n ≡ true) where
   pub word-given : (x : Wire) → r ≡ Built.Header x → x .0 ≡ halves (headerOf n)
-  word-given x f = same (sym f ∙ e ∙ sym (built n w))
-    where
-      same : {y : Word} → Built.Header x ≡ Built.Header (record { 0 = y }) → x .0 ≡ y
-      same {y} g = let h : x ≡ record { 0 = y } = cc in ap (λ (z : Wire). z .0) h
+  word-given x f = ap (λ (y : Wire). y .0) (one-header (sym f ∙ e ∙ sym (built n w)))
 
   pub word-never : {x : Refusal} → r ≡ Built.Refused x → ⊥
-  word-never {x} f = apart (built n w ∙ sym e ∙ f)
-    where
-      apart : {y : Wire} → Built.Header y ≡ Built.Refused x → ⊥
-      apart {y} g = let k : _≡_ {A = ℕ} 0 1 = cc in omega arith
+  word-never f = header-refused (built n w ∙ sym e ∙ f)
 
 -- ---- the entry
 

@@ -1,6 +1,5 @@
 -- Laws of matching: a header matches an entry field by field, and it matches some entry of a rule where its five numbers satisfy the rule.
 use mathlib.Core.Path.{_≡_, refl, sym, ap, ap₂, _∙_}
-use mathlib.Core.Logic.{_≢_}
 use mathlib.Core.List.{List, [], _∷_, _++_, map, flatMap}
 use mathlib.Core.Bool.{Bool, true, false, _&&_, _||_, and-comm}
 use Prim.Native.Nat.{ℕ, _+_, _-_, _^_, _≤_, _<_}
@@ -9,7 +8,7 @@ use lib.Bits.{bitAnd}
 use lib.Dec.{eqb, leb, ltb}
 use lib.Pow.{pow-pos}
 use borrow.Author.Tests.{leb-true, ltb-true, le-leb, lt-ltb}
-use Rattle.words.proofs.Tests.{same-test, and-true, true-and, eqb-yes, yes-eqb, no-eqb, split as by}
+use Rattle.words.proofs.Tests.{same-test, and-true, true-and, eqb-yes, yes-eqb, split as by}
 use Rattle.rules.specs.Rule.{Rule}
 use Rattle.rules.specs.Rules.{choose, matches, first, answer, noMatch, Valid}
 use Rattle.rules.specs.Lists.{All}
@@ -26,7 +25,7 @@ use Rattle.five_fields.specs.FiveFieldRules.{anyProtocol, inPrefix, ofPr
 use Rattle.five_fields.specs.Expansion.{addressPrefix, protocolBy, protocolPrefix, entry, sourcePrefixes, destinationPrefixes, expansion, expanded}
 use Rattle.five_numbers.proofs.FieldLaws.{Within, Inside, within-and, joined-and, joined-eqb, joined-lt}
 use Rattle.five_fields.proofs.ListLaws.{all-flat}
-use Rattle.five_fields.proofs.CheckLaws.{PortRange, Good, protocol-prefix}
+use Rattle.five_fields.proofs.CheckLaws.{PortRange, Good, any-prefix, one-prefix, protocol-prefix}
 
 -- ---- an entry
 
@@ -183,16 +182,13 @@ address-range a k m p h =
 protocol-test : (p m : ℕ) → p ≤ anyProtocol → m < 2 ^ protocolBits → prefixMatches protocolBits (protocolPrefix p) m ≡ ofProtocol p m
 protocol-test p m h l =
     by (eqb p anyProtocol)
-    (λ e. ap matched e ∙ prefix-matches-exactly protocolBits m (prefix protocolBits 0) (record { fits = omega arith; within = omega arith; clear = refl }) l
+    (λ e. ap matched e ∙ prefix-matches-exactly protocolBits m (prefix protocolBits 0) any-prefix l
     ∙ true-and (le-leb 0 m (omega arith)) (lt-ltb m (0 + 2 ^ protocolBits) (omega arith)) ∙ sym (ap (λ (t : Bool). t || eqb m p) e))
-    (λ e. ap matched e ∙ prefix-matches-exactly protocolBits m (prefix 0 p) (record { fits = omega arith; within = below e; clear = omega arith }) l
+    (λ e. ap matched e ∙ prefix-matches-exactly protocolBits m (prefix 0 p) (one-prefix p h e) l
     ∙ one ∙ sym (ap (λ (t : Bool). t || eqb m p) e))
   where
     matched : Bool → Bool
     matched t = prefixMatches protocolBits (protocolBy t p) m
-
-    below : eqb p anyProtocol ≡ false → p < 2 ^ protocolBits
-    below e = let d : p ≢ anyProtocol = no-eqb p anyProtocol e in omega arith
 
     one : (leb p m && ltb m (p + 2 ^ 0)) ≡ eqb m p
     one =

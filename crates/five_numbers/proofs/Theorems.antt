@@ -2,18 +2,17 @@
 use mathlib.Core.Path.{_≡_, sym, ap, _∙_}
 use mathlib.Core.Bool.{true}
 use Prim.Native.Nat.{ℕ, _^_, _<_}
-use native.Mathlib.Omega.{arith}
 use Rattle.words.specs.Halves.{num, halves}
 use Rattle.words.proofs.Tests.{split as by}
 use Rattle.words.proofs.WordLaws.{num-halves}
 use Rattle.rules.specs.declared.Wire.{Wire}
-use Rattle.rules.specs.declared.Refusal.{Refusal}
 use Rattle.rules.specs.Replies.{need}
 use Rattle.rules.proofs.ReplyLaws.{then-next, then-refuses, need-yes, need-no}
 use Rattle.five_numbers.specs.declared.Built.{Built}
 use Rattle.five_numbers.specs.Numbers.{Numbers}
 use Rattle.five_numbers.specs.Fields.{headerBits, headerOf, inFields, numbersOf}
 use Rattle.five_numbers.specs.Calls.{builtAnswer, headerReply}
+use Rattle.five_numbers.proofs.CallLaws.{one-header, header-refused}
 use Rattle.five_numbers.proofs.FieldLaws.{in-fields, fields-in, joined-lt, header-back, header-within, numbers-back}
 
 -- ---- headers and their five numbers
@@ -42,13 +41,7 @@ unfolding headerReply
 header-told n x e =
     by (inFields n)
     (λ t. (t, same-header (ap builtAnswer (then-next (need (inFields n) 6 0 0) _ (need-yes _ 6 0 0 t)))))
-    (λ f. absurd (no-header (e ∙ ap builtAnswer (then-refuses (need (inFields n) 6 0 0) _ (need-no _ 6 0 0 f)))))
+    (λ f. absurd (header-refused (e ∙ ap builtAnswer (then-refuses (need (inFields n) 6 0 0) _ (need-no _ 6 0 0 f)))))
   where
-    only : {y z : Wire} → Built.Header y ≡ Built.Header z → y ≡ z
-    only f = cc
-
     same-header : builtAnswer (headerReply n) ≡ Built.Header (record { 0 = halves (headerOf n) }) → num (x .0) ≡ headerOf n
-    same-header f = let w : x ≡ record { 0 = halves (headerOf n) } = only (e ∙ f) in ap (λ (y : Wire). num (y .0)) w ∙ num-halves (headerOf n)
-
-    no-header : {y : Wire} {z : Refusal} → Built.Header y ≡ Built.Refused z → ⊥
-    no-header {y} {z} f = let k : _≡_ {A = ℕ} 0 1 = cc in omega arith
+    same-header f = let w : x ≡ record { 0 = halves (headerOf n) } = one-header (e ∙ f) in ap (λ (y : Wire). num (y .0)) w ∙ num-halves (headerOf n)
