@@ -4,18 +4,18 @@ use mathlib.Core.List.{List, [], _∷_}
 use Prim.Native.Nat.{ℕ, _*_, _≤_}
 use native.Mathlib.Omega.{arith}
 use lib.ListN.{length, take}
-use lib.Seq.{take-at}
 use Rattle.rules.specs.declared.Refusal.{Refusal}
 use Rattle.rules.specs.Rule.{Rule}
-use Rattle.rules.specs.Slices.{rulesOf, careOf, valueOf, decisionOf}
+use Rattle.rules.specs.Slices.{rulesOf, careOf, valueOf, decisionOf, padded}
 use Rattle.rules.specs.Replies.{Reply, Gives, passed, refusalReply, unlessRefused}
 use Rattle.rules.specs.Checks.{lengthsCheck}
 use Rattle.rules.specs.Calls.{checkList}
 use Rattle.rules.proofs.ReplyLaws.{then-next, then-stop, gives-refuses}
+use Rattle.rules.proofs.PaddedLaws.{padded-front}
 use Rattle.rules.proofs.CheckLaws.{lengths-yes, room-yes}
 use Rattle.weaving.specs.declared.Woven.{Woven}
 use Rattle.weaving.specs.Weave.{weave, kept, dropped, merges}
-use Rattle.weaving.specs.Calls.{wovenReply, padded, weaveReply, WeaveDone}
+use Rattle.weaving.specs.Calls.{wovenReply, weaveReply, WeaveDone}
 use Rattle.image_form.specs.Images.{widthIn}
 use Rattle.image_check.specs.Checks.{imageCheck}
 use Rattle.image.specs.Places.{listWith}
@@ -35,11 +35,6 @@ pub list-refused : (b : List ℕ) (id : ℕ) (x : Refusal) (oc ov od : List ℕ)
 unfolding tallyReply
 list-refused b id x oc ov od e =
     record { reply = sym (then-stop (idCheck b id) _ x e); held = λ t f. absurd (gives-refuses (sym (ap wovenReply f))) }
-
--- the first places of a slice that was filled
-padded-front : (k n : ℕ) (xs old : List ℕ) → length xs ≡ k → take k (padded n xs old) ≡ xs
-unfolding padded
-padded-front k n xs old e = take-at xs _ k e
 
 -- a list that passes its checks, woven into slices with room for it
 module _ (w : ℕ) (cs vs ds oc ov od oc′ ov′ od′ : List ℕ) (r : Woven) (D : WeaveDone w cs vs ds oc ov od oc′ ov′ od′ r)

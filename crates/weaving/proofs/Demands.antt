@@ -5,26 +5,26 @@ use mathlib.Core.List.{List, [], _∷_, map}
 use Prim.Native.Nat.{ℕ, _+_, _*_, _≤_}
 use native.Mathlib.Omega.{arith}
 use lib.ListN.{length, take, length-map}
-use lib.Seq.{take-at}
 use Rattle.words.specs.Slices.{halvesOf}
 use Rattle.words.proofs.SliceLaws.{halves-length}
 use Rattle.rules.specs.Rule.{Rule}
 use Rattle.rules.specs.Rules.{answer}
 use Rattle.rules.specs.declared.Refusal.{Refusal}
-use Rattle.rules.specs.Slices.{rulesOf, careOf, valueOf, decisionOf, caresOf, valuesOf, decisionsOf, Lent}
+use Rattle.rules.specs.Slices.{rulesOf, careOf, valueOf, decisionOf, caresOf, valuesOf, decisionsOf, Lent, padded}
 use Rattle.rules.specs.Replies.{Reply, Gives, passed, unlessRefused}
 use Rattle.rules.specs.Checks.{lengthsCheck, roomCheck, Sound}
 use Rattle.rules.specs.Calls.{checkList, lookedUp, decided}
 use Rattle.rules.proofs.ReplyLaws.{then-second}
 use Rattle.rules.proofs.ZipLaws.{ap₃}
 use Rattle.rules.proofs.SliceLaws.{rules-length, rules-columns}
+use Rattle.rules.proofs.PaddedLaws.{padded-front}
 use Rattle.rules.proofs.CheckLaws.{list-sound, list-first}
 use Rattle.rules.proofs.AnswerLaws.{decide-alike}
 use Rattle.weaving.specs.declared.Counted.{Counted}
 use Rattle.weaving.specs.declared.Tally.{Tally}
 use Rattle.weaving.specs.declared.Woven.{Woven}
 use Rattle.weaving.specs.Weave.{weave, kept, dropped, merges}
-use Rattle.weaving.specs.Calls.{padded, RunsDone, weaveReply, WeaveDone}
+use Rattle.weaving.specs.Calls.{RunsDone, weaveReply, WeaveDone}
 use Rattle.weaving.proofs.Theorems.{weave-keeps-answers, weave-keeps-some, counts-add-up, woven-list-passes}
 
 -- ---- the kept places
@@ -36,11 +36,6 @@ keptWords t words = take (t .kept * 2) words
 -- The decisions of the kept rules.
 abbrev pub keptDecisions : Tally → List ℕ → List ℕ
 keptDecisions t decisions = take (t .kept) decisions
-
--- The first places of a slice that was filled.
-padded-front : (k n : ℕ) (xs old : List ℕ) → length xs ≡ k → take k (padded n xs old) ≡ xs
-unfolding padded
-padded-front k n xs old e = take-at xs _ k e
 
 -- ---- weaving
 
