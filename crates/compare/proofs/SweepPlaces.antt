@@ -34,7 +34,7 @@ any-value x h l lh =
     ap (λ (y : ℕ). bitAnd (bitXor x h) (y - 1)) limit-pow ∙ and-mask (bitXor x h) 128 ∙ mod-eq-of-lt (xor-lt 128 x h (wide x l) (wide h lh))
 
 -- more places
-within-left : (d a e : ℕ) → bitAnd d a ≡ d → bitAnd d (bitOr a e) ≡ d
+pub within-left : (d a e : ℕ) → bitAnd d a ≡ d → bitAnd d (bitOr a e) ≡ d
 within-left d a e q = same-bits (bitAnd d (bitOr a e)) d (λ k.
     let t : min (bit d k) (bit a k) ≡ bit d k = sym (bit-and d a k) ∙ ap (λ (x : ℕ). bit x k) q in
     bit-and d (bitOr a e) k ∙ ap (min (bit d k)) (bit-or a e k) ∙ one-in (bit d k) (bit a k) (bit e k) (bit<2 d k) t)
