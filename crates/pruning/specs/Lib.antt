@@ -1,0 +1,3 @@
+pub mod Prune
+pub mod Calls
+pub mod Inner
