@@ -18,12 +18,12 @@ use Rattle.rules.specs.Lists.{All, except}
 use Rattle.rules.specs.Found.{Hits}
 use Rattle.rules.specs.Replies.{passed}
 use Rattle.rules.specs.Checks.{Sound}
-use Rattle.rules.specs.Calls.{checkList, lookedUp, decided, answered}
-use Rattle.rules.proofs.RuleLaws.{yes-matches}
+use Rattle.rules.specs.Calls.{checkList, lookedUp, decided}
+use Rattle.rules.proofs.RuleLaws.{decides-some, own-value, own-header}
 use Rattle.removal.proofs.RemoveLaws.{except-all}
 use Rattle.rules.proofs.SliceLaws.{rules-length}
 use Rattle.rules.proofs.CheckLaws.{sound-list}
-use Rattle.rules.proofs.AnswerLaws.{looked-answered, looked-past}
+use Rattle.rules.proofs.AnswerLaws.{decide-alike-within}
 use Rattle.compare.specs.Needed.{lowestChange, DoesNothing, LowestChange}
 use Rattle.pruning.specs.Prune.{needless, dropIf, passDown, prune, kept, dropped, neededHeader, headersFrom, neededHeaders, InOrder}
 use Rattle.compare.proofs.ExceptLaws.{change-later}
@@ -197,20 +197,6 @@ prune-again w rs = left-exactly w (prune w rs) .1 (every-rule-needed w rs)
 
 -- ---- a list that has a rule
 
--- a list that decides for some header has a rule
-decides-some : (rs : List Rule) (h : ℕ) → answer rs h < noMatch → 1 ≤ length rs
-unfolding first
-decides-some [] h l = absurd (omega arith)
-decides-some (r ∷ rs) h l = omega arith
-
--- a valid rule decides for its own value, which is a header of the width
-own-value : (w : ℕ) (r : Rule) (rs : List Rule) → Valid w r → answer (r ∷ rs) (r .value) < noMatch
-unfolding first
-own-value w r rs v = let m = yes-matches r (r .value) (v .within) in simp m (v .decides)
-
-own-header : (w : ℕ) (r : Rule) → Valid w r → r .value < 2 ^ w
-own-header w r v = omega (arith, v .within, v .fits, and-le-r (r .value) (r .care))
-
 -- Pruning keeps at least one rule of a list of valid rules that has one, as request 07 asks of every list of an image.
 pub prune-keeps-some : (w : ℕ) (rs : List Rule) → All (Valid w) rs → 1 ≤ length rs → 1 ≤ length (prune w rs)
 prune-keeps-some w [] v k = absurd (omega arith)
@@ -237,20 +223,9 @@ pruned-list-passes w l cs vs ds ocs ovs ods s o e =
 -- where the header is no header of the width.
 pub pruned-list-lookup : (w h : ℕ) (cs vs ds ocs ovs ods : List ℕ) → Sound w cs vs ds → Lent ocs ovs ods
     → rulesOf ocs ovs ods ≡ prune w (rulesOf cs vs ds) → decided (lookedUp w ocs ovs ods h) ≡ decided (lookedUp w cs vs ds h)
-pruned-list-lookup w h cs vs ds ocs ovs ods s o e = go (decLt h (2 ^ w))
-  where
-    new : checkList w 1 ocs ovs ods ≡ passed
-    new = pruned-list-passes w 1 cs vs ds ocs ovs ods s o e
-
-    old : checkList w 1 cs vs ds ≡ passed
-    old = sound-list w 1 cs vs ds s
-
-    go : Dec (h < 2 ^ w) → decided (lookedUp w ocs ovs ods h) ≡ decided (lookedUp w cs vs ds h)
-    go (yes l) =
-        looked-answered w ocs ovs ods h new l
-        ∙ ap answered (ap (λ (rs : List Rule). answer rs h) e ∙ prune-keeps-answers w (rulesOf cs vs ds) h l)
-        ∙ sym (looked-answered w cs vs ds h old l)
-    go (no m) = ap decided (looked-past w ocs ovs ods h new (omega arith) ∙ sym (looked-past w cs vs ds h old (omega arith)))
+pruned-list-lookup w h cs vs ds ocs ovs ods s o e =
+    decide-alike-within w ocs ovs ods cs vs ds h (pruned-list-passes w 1 cs vs ds ocs ovs ods s o e) (sound-list w 1 cs vs ds s)
+    (λ l. ap (λ (rs : List Rule). answer rs h) e ∙ prune-keeps-answers w (rulesOf cs vs ds) h l)
 
 -- ---- the headers shown
 

@@ -111,13 +111,17 @@ module _ (w : ℕ) (cs vs ds cs′ vs′ ds′ : List ℕ) (h : ℕ) where
     past-alike : 2 ^ w ≤ h → decided (lookedUp w cs vs ds h) ≡ decided (lookedUp w cs′ vs′ ds′ h)
     past-alike l = ap decided (looked-past w cs vs ds h p l ∙ sym (looked-past w cs′ vs′ ds′ h q l))
 
-    -- Where two lists that pass answer a header alike, its lookups decide alike, whichever rules it hits.
-    pub decide-alike : answer (rulesOf cs vs ds) h ≡ answer (rulesOf cs′ vs′ ds′) h → decided (lookedUp w cs vs ds h) ≡ decided (lookedUp w cs′ vs′ ds′ h)
-    decide-alike e = go (decLt h (2 ^ w))
+    -- Where two lists that pass answer a header alike, if it is of the width, its lookups decide alike, whichever rules it hits.
+    pub decide-alike-within : (h < 2 ^ w → answer (rulesOf cs vs ds) h ≡ answer (rulesOf cs′ vs′ ds′) h)
+        → decided (lookedUp w cs vs ds h) ≡ decided (lookedUp w cs′ vs′ ds′ h)
+    decide-alike-within e = go (decLt h (2 ^ w))
       where
         go : Dec (h < 2 ^ w) → decided (lookedUp w cs vs ds h) ≡ decided (lookedUp w cs′ vs′ ds′ h)
-        go (yes l) = looked-answered w cs vs ds h p l ∙ ap answered e ∙ sym (looked-answered w cs′ vs′ ds′ h q l)
+        go (yes l) = looked-answered w cs vs ds h p l ∙ ap answered (e l) ∙ sym (looked-answered w cs′ vs′ ds′ h q l)
         go (no m) = past-alike (omega arith)
+
+    pub decide-alike : answer (rulesOf cs vs ds) h ≡ answer (rulesOf cs′ vs′ ds′) h → decided (lookedUp w cs vs ds h) ≡ decided (lookedUp w cs′ vs′ ds′ h)
+    decide-alike e = decide-alike-within (λ l. e)
 
     -- In two lists that pass, the lookups of a header decide differently exactly where it is of the width and the two lists answer
     -- differently.
