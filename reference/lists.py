@@ -1,4 +1,5 @@
-"""lists.py KIND FILE: writes an image with one list of some 1,000 rules, always the same for a KIND, on which weaving is measured.
+"""lists.py KIND FILE: writes an image with one list of some 1,000 rules, always the same for a KIND, on which weaving and pruning are
+measured.
 
 short-runs    128 places, 1,024 rules in 128 runs of 8; in a run no two rules have as many stars. A run's rules care about the first so
               many places or about the last so many, in turn, so the first rule of a run crosses those of the run before.
@@ -7,13 +8,14 @@ one-chunk     128 places, 1,024 rules that care about the same 64 places; their 
 none-merges   the same with decisions 1 to 1,024: no two rules merge.
 access        64 places, a source and a destination address of 32 each: 12 sites with 8 subnets, which are let through to hosts of a
               service, host by host, but for a denied network here and there; sites are let through to networks, and all else is denied.
+scattered     64 places, 1,024 rules that care about 8 to 12 places anywhere, with any values and decisions 0 to 3.
 """
 import random
 import sys
 
 import images
 
-PLACES = {"short-runs": 128, "one-chunk": 128, "none-merges": 128, "access": 64}
+PLACES = {"short-runs": 128, "one-chunk": 128, "none-merges": 128, "access": 64, "scattered": 64}
 
 
 def first(width, count):
@@ -64,12 +66,22 @@ def access(make):
     return rules + [(0, 0, deny)]
 
 
+def scattered(make):
+    rules = []
+    for _ in range(1024):
+        care = sum(1 << place for place in make.sample(range(64), make.randrange(8, 13)))
+        rules.append((care, make.getrandbits(64) & care, make.randrange(4)))
+    return rules
+
+
 def rules_of(kind):
     make = random.Random(2)
     if kind == "short-runs":
         return short_runs(make)
     if kind == "access":
         return access(make)
+    if kind == "scattered":
+        return scattered(make)
     return one_chunk(make, (lambda k: 1) if kind == "one-chunk" else (lambda k: k + 1))
 
 
