@@ -6,3 +6,5 @@ mod AskLaws
 mod PassLaws
 mod ShowLaws
 mod CallLaws
+pub mod Unique
+pub mod Demands
