@@ -1,10 +1,12 @@
--- What `weave_image` and `tally` owe their user, read off their own promises: the image that is left, that it is accepted and no longer,
--- which lists it has, that none is empty, and how they answer; and that a refused call leaves the lent bytes as they were.
+-- What `weave_image`, `prune_image` and `tally` owe their user, read off their own promises: the image that is left, that it is accepted and
+-- no longer, which lists it has, that none is empty, and how they answer; and that a refused call leaves the lent bytes as they were. Weaving
+-- and pruning owe the same but for what becomes of a list, so it is said once, of both.
 use mathlib.Core.Path.{_≡_, refl, sym, ap, ap₂, _∙_, subst}
 use mathlib.Core.List.{List, [], _∷_}
 use mathlib.Core.Bool.{Bool, false, _||_}
-use Prim.Native.Nat.{ℕ, _+_, _*_, _≤_}
+use Prim.Native.Nat.{ℕ, _+_, _*_, _^_, _≤_, _<_}
 use native.Mathlib.Nat.{mul-le-mul-left}
+use native.Mathlib.Decide.{decLt}
 use native.Mathlib.Omega.{arith}
 use lib.Dec.{eqb}
 use lib.ListN.{length, take, drop}
@@ -20,13 +22,14 @@ use Rattle.rules.specs.Checks.{roomCheck}
 use Rattle.rules.specs.Calls.{checkList, lookedUp, decided}
 use Rattle.rules.proofs.ReplyLaws.{then-second, one-value, bare-first}
 use Rattle.rules.proofs.SliceLaws.{rules-columns}
-use Rattle.rules.proofs.AnswerLaws.{decide-alike}
+use Rattle.rules.proofs.AnswerLaws.{decide-alike, looked-past}
 use Rattle.weaving.specs.declared.Tally.{Tally}
 use Rattle.weaving.specs.declared.Woven.{Woven}
 use Rattle.weaving.specs.Runs.{join}
 use Rattle.weaving.specs.Weave.{weave, kept, dropped, merges}
 use Rattle.weaving.specs.Calls.{wovenReply}
-use Rattle.weaving.proofs.Theorems.{weave-keeps-answers, weave-keeps-some, counts-add-up}
+use Rattle.weaving.proofs.Theorems.{weave-keeps-some, counts-add-up}
+use Rattle.pruning.specs.Prune.{prune, passDown}
 use Rattle.image_form.specs.Formats.{ruleSize}
 use Rattle.image_form.specs.declared.Entry.{Entry}
 use Rattle.image_form.specs.Images.{Named, formatIn, widthIn, countIn, entriesOf, listsIn, listsOf, bytesOf}
@@ -43,20 +46,23 @@ use Rattle.image.proofs.Theorems.{rulesNamed, list-named}
 use Rattle.image_writer.proofs.AgainLaws.{Carried, length-bytesOf, carried-passes, carried-back}
 use Rattle.image_writer.proofs.CarryLaws.{image-carried, ids-fit}
 use Rattle.image_writer.proofs.ListLaws.{columns-lent}
-use Rattle.image_weaving.specs.Weaving.{wovenLists, wovenBytes, weaveImageReply, ImageWoven, tallyReply}
-use Rattle.image_weaving.proofs.WovenLaws.{length-woven, woven-fewer, woven-carried}
+use Rattle.image_weaving.specs.declared.Squeeze.{Squeeze}
+use Rattle.image_weaving.specs.Squeezing.{squeezed, squeezedLists, squeezedBytes, squeezeImageReply, ImageSqueezed}
+use Rattle.image_weaving.specs.Weaving.{ImageWoven, tallyReply}
+use Rattle.image_weaving.proofs.SqueezedLaws.{squeezed-answers, length-squeezed, squeezed-fewer, squeezed-carried}
 
 -- ---- the list with an id
 
-weave-none : (w : ℕ) → weave w [] ≡ []
-unfolding weave join
-weave-none w = refl
+squeezed-none : (z : Squeeze) (w : ℕ) → squeezed z w [] ≡ []
+unfolding weave join prune passDown
+squeezed-none Squeeze.Weave w = refl
+squeezed-none Squeeze.Prune w = refl
 
-woven-named : (w id : ℕ) (ls : List Named) → rulesNamed id (wovenLists w ls) ≡ weave w (rulesNamed id ls)
-unfolding rulesNamed wovenLists
-woven-named w id [] = sym (weave-none w)
-woven-named w id (l ∷ ls) =
-    split (eqb (l .id) id) (λ y. simp y) (λ n. simp n (woven-named w id ls))
+squeezed-named : (z : Squeeze) (w id : ℕ) (ls : List Named) → rulesNamed id (squeezedLists z w ls) ≡ squeezed z w (rulesNamed id ls)
+unfolding rulesNamed squeezedLists
+squeezed-named z w id [] = sym (squeezed-none z w)
+squeezed-named z w id (l ∷ ls) =
+    split (eqb (l .id) id) (λ y. simp y) (λ n. simp n (squeezed-named z w id ls))
 
 -- whether one of some lists has that id
 abbrev isNamed : (id : ℕ) → List Named → Bool
@@ -73,10 +79,10 @@ image-named : (b : List ℕ) (id : ℕ) → placeOf b id .found ≡ isNamed id (
 unfolding placeOf listsOf
 image-named b id = place-named (formatIn b) id (4 + 8 * countIn b) (entriesOf b) (drop (4 + 8 * countIn b) b)
 
-woven-ids : (w id : ℕ) (ls : List Named) → isNamed id (wovenLists w ls) ≡ isNamed id ls
-unfolding wovenLists
-woven-ids w id [] = refl
-woven-ids w id (l ∷ ls) = ap (λ (t : Bool). eqb (l .id) id || t) (woven-ids w id ls)
+squeezed-ids : (z : Squeeze) (w id : ℕ) (ls : List Named) → isNamed id (squeezedLists z w ls) ≡ isNamed id ls
+unfolding squeezedLists
+squeezed-ids z w id [] = refl
+squeezed-ids z w id (l ∷ ls) = ap (λ (t : Bool). eqb (l .id) id || t) (squeezed-ids z w id ls)
 
 -- the rules of an accepted image's list, in slices of their own, pass the checks of a list
 columns-pass : (b : List ℕ) (id : ℕ) → imageCheck b ≡ passed
@@ -85,97 +91,111 @@ columns-pass b id f =
     let rs : List Rule = listWith b id in
     list-passes b id 1 (caresOf rs) (valuesOf rs) (decisionsOf rs) f (columns-lent rs) (rules-columns rs)
 
--- ---- `weave_image` answered with the number n, and left out′ in the bytes that held out
+-- ---- `weave_image` or `prune_image` answered with the number n, and left out′ in the bytes that held out
 
-module _ (bs out out′ : List ℕ) (n : ℕ) (W : ImageWoven bs out (NumberAnswer.Number n) out′) where
-  said : weaveImageReply bs out ≡ Gives (n ∷ [])
+module _ (z : Squeeze) (bs out out′ : List ℕ) (n : ℕ) (W : ImageSqueezed z bs out (NumberAnswer.Number n) out′) where
+  said : squeezeImageReply z bs out ≡ Gives (n ∷ [])
   said = sym (W .answer)
 
   -- The image was accepted.
-  pub woven-source-passes : imageCheck bs ≡ passed
-  unfolding weaveImageReply
-  woven-source-passes = bare-first (imageCheck bs) _ (bare-image bs) (n ∷ []) said
+  pub squeezed-source-passes : imageCheck bs ≡ passed
+  unfolding squeezeImageReply
+  squeezed-source-passes = bare-first (imageCheck bs) _ (bare-image bs) (n ∷ []) said
 
-  length-is : length (wovenBytes bs) ≡ n
-  unfolding weaveImageReply
-  length-is = one-value (then-second (roomCheck (length (wovenBytes bs)) (length out)) _ (n ∷ []) (then-second (imageCheck bs) _ (n ∷ []) said))
+  length-is : length (squeezedBytes z bs) ≡ n
+  unfolding squeezeImageReply
+  length-is = one-value (then-second (roomCheck (length (squeezedBytes z bs)) (length out)) _ (n ∷ []) (then-second (imageCheck bs) _ (n ∷ []) said))
 
-  left : out′ ≡ filled (wovenBytes bs) out
-  left = W .bytes ∙ ap (λ (u : Reply). unlessRefused u (filled (wovenBytes bs) out) out) said
+  left : out′ ≡ filled (squeezedBytes z bs) out
+  left = W .bytes ∙ ap (λ (u : Reply). unlessRefused u (filled (squeezedBytes z bs) out) out) said
 
-  -- The first n bytes are the woven image, and later bytes are as they were.
-  pub woven-image-bytes : (take n out′ ≡ wovenBytes bs) × (drop n out′ ≡ drop n out)
-  woven-image-bytes = (
-    ap (take n) left ∙ take-at (wovenBytes bs) (drop (length (wovenBytes bs)) out) n length-is,
-    ap (drop n) left ∙ drop-at (wovenBytes bs) (drop (length (wovenBytes bs)) out) n length-is ∙ ap (λ (k : ℕ). drop k out) length-is,
+  -- The first n bytes are the squeezed image, and later bytes are as they were.
+  pub squeezed-image-bytes : (take n out′ ≡ squeezedBytes z bs) × (drop n out′ ≡ drop n out)
+  squeezed-image-bytes = (
+    ap (take n) left ∙ take-at (squeezedBytes z bs) (drop (length (squeezedBytes z bs)) out) n length-is,
+    ap (drop n) left ∙ drop-at (squeezedBytes z bs) (drop (length (squeezedBytes z bs)) out) n length-is ∙ ap (λ (k : ℕ). drop k out) length-is,
   )
 
   -- of the lent bytes, what the type of a byte slice says
   module _ (bytes : AreBytes bs) where
     source : Carried (formatIn bs) (widthIn bs) (listsOf bs)
-    source = image-carried bs (ids-fit bs bytes) woven-source-passes .0
+    source = image-carried bs (ids-fit bs bytes) squeezed-source-passes .0
 
-    carried : Carried (formatIn bs) (widthIn bs) (wovenLists (widthIn bs) (listsOf bs))
-    carried = woven-carried (formatIn bs) (widthIn bs) (listsOf bs) source
+    carried : Carried (formatIn bs) (widthIn bs) (squeezedLists z (widthIn bs) (listsOf bs))
+    carried = squeezed-carried z (formatIn bs) (widthIn bs) (listsOf bs) source
 
-    -- `check` finds nothing against the woven image.
-    pub woven-image-passes : imageCheck (take n out′) ≡ passed
-    unfolding wovenBytes
-    woven-image-passes = ap imageCheck (woven-image-bytes .0) ∙ carried-passes (formatIn bs) (widthIn bs) (wovenLists (widthIn bs) (listsOf bs)) carried
+    -- `check` finds nothing against the squeezed image.
+    pub squeezed-image-passes : imageCheck (take n out′) ≡ passed
+    unfolding squeezedBytes
+    squeezed-image-passes = ap imageCheck (squeezed-image-bytes .0) ∙ carried-passes (formatIn bs) (widthIn bs) (squeezedLists z (widthIn bs) (listsOf bs)) carried
 
-    -- Each of its lists has a rule: weaving leaves none empty (request 07).
-    pub woven-image-full : All HasRules (listsOf (take n out′))
-    woven-image-full = no-list-empty (take n out′) woven-image-passes
+    -- Each of its lists has a rule: squeezing leaves none empty (request 07).
+    pub squeezed-image-full : All HasRules (listsOf (take n out′))
+    squeezed-image-full = no-list-empty (take n out′) squeezed-image-passes
 
-    -- It has the lists of the image, each with its id and woven, in order.
-    pub woven-image-lists : listsOf (take n out′) ≡ wovenLists (widthIn bs) (listsOf bs)
-    unfolding wovenBytes
-    woven-image-lists = ap listsOf (woven-image-bytes .0) ∙ carried-back (formatIn bs) (widthIn bs) (wovenLists (widthIn bs) (listsOf bs)) carried
+    -- It has the lists of the image, each with its id and squeezed, in order.
+    pub squeezed-image-lists : listsOf (take n out′) ≡ squeezedLists z (widthIn bs) (listsOf bs)
+    unfolding squeezedBytes
+    squeezed-image-lists = ap listsOf (squeezed-image-bytes .0) ∙ carried-back (formatIn bs) (widthIn bs) (squeezedLists z (widthIn bs) (listsOf bs)) carried
 
     -- It has the format and the width of the image.
-    pub woven-image-head : (formatIn (take n out′) ≡ formatIn bs) × (widthIn (take n out′) ≡ widthIn bs)
-    unfolding wovenBytes bytesOf
-    woven-image-head = (ap formatIn (woven-image-bytes .0), ap widthIn (woven-image-bytes .0))
+    pub squeezed-image-head : (formatIn (take n out′) ≡ formatIn bs) × (widthIn (take n out′) ≡ widthIn bs)
+    unfolding squeezedBytes bytesOf
+    squeezed-image-head = (ap formatIn (squeezed-image-bytes .0), ap widthIn (squeezed-image-bytes .0))
 
     -- It has the ids of the image: whoever asks for a list by an id is refused, or not, as with the image.
-    pub woven-image-ids : (id : ℕ) → idCheck (take n out′) id ≡ idCheck bs id
+    pub squeezed-image-ids : (id : ℕ) → idCheck (take n out′) id ≡ idCheck bs id
     unfolding idCheck
-    woven-image-ids id =
-        ap₂ (λ (a : Reply) (t : Bool). a then need t 15 0 0) (woven-image-passes ∙ sym woven-source-passes)
-        (image-named (take n out′) id ∙ ap (isNamed id) woven-image-lists ∙ woven-ids (widthIn bs) id (listsOf bs) ∙ sym (image-named bs id))
+    squeezed-image-ids id =
+        ap₂ (λ (a : Reply) (t : Bool). a then need t 15 0 0) (squeezed-image-passes ∙ sym squeezed-source-passes)
+        (image-named (take n out′) id ∙ ap (isNamed id) squeezed-image-lists ∙ squeezed-ids z (widthIn bs) id (listsOf bs) ∙ sym (image-named bs id))
 
     -- It is no longer than the image.
-    pub woven-image-shorter : n ≤ length bs
-    unfolding wovenBytes
-    woven-image-shorter =
-        let ls : List Named = wovenLists (widthIn bs) (listsOf bs) in
+    pub squeezed-image-shorter : n ≤ length bs
+    unfolding squeezedBytes
+    squeezed-image-shorter =
+        let ls : List Named = squeezedLists z (widthIn bs) (listsOf bs) in
         omega (
           arith,
           length-is,
           length-bytesOf (formatIn bs) (widthIn bs) ls carried,
-          length-woven (widthIn bs) (listsOf bs),
-          image-carried bs (ids-fit bs bytes) woven-source-passes .1,
-          mul-le-mul-left (ruleSize (formatIn bs)) (woven-fewer (widthIn bs) (listsOf bs)),
+          length-squeezed z (widthIn bs) (listsOf bs),
+          image-carried bs (ids-fit bs bytes) squeezed-source-passes .1,
+          mul-le-mul-left (ruleSize (formatIn bs)) (squeezed-fewer z (widthIn bs) (listsOf bs)),
         )
 
-    -- The list with an id is the image's list with that id, woven.
-    pub woven-image-list : (id : ℕ) → listWith (take n out′) id ≡ weave (widthIn bs) (listWith bs id)
-    woven-image-list id =
-        list-named (take n out′) id ∙ ap (rulesNamed id) woven-image-lists ∙ woven-named (widthIn bs) id (listsOf bs) ∙ ap (weave (widthIn bs)) (sym (list-named bs id))
+    -- The list with an id is the image's list with that id, squeezed.
+    pub squeezed-image-list : (id : ℕ) → listWith (take n out′) id ≡ squeezed z (widthIn bs) (listWith bs id)
+    squeezed-image-list id =
+        list-named (take n out′) id ∙ ap (rulesNamed id) squeezed-image-lists ∙ squeezed-named z (widthIn bs) id (listsOf bs) ∙ ap (squeezed z (widthIn bs)) (sym (list-named bs id))
 
     -- Looking a header up in it decides as looking it up in the image's list with that id: the same decision, no match where there is
     -- none, and the same refusal where the header is no header of the width.
-    pub woven-image-lookup : (id h : ℕ)
+    pub squeezed-image-lookup : (id h : ℕ)
         → decided (lookedUp (widthIn bs) (caresOf (listWith (take n out′) id)) (valuesOf (listWith (take n out′) id)) (decisionsOf (listWith (take n out′) id)) h)
         ≡ decided (lookedUp (widthIn bs) (caresOf (listWith bs id)) (valuesOf (listWith bs id)) (decisionsOf (listWith bs id)) h)
-    woven-image-lookup id h =
-        let xs : List Rule = listWith (take n out′) id in
-        let ys : List Rule = listWith bs id in
-        let fine : checkList (widthIn bs) 1 (caresOf xs) (valuesOf xs) (decisionsOf xs) ≡ passed =
-        subst (λ (w : ℕ). checkList w 1 (caresOf xs) (valuesOf xs) (decisionsOf xs) ≡ passed) (woven-image-head .1) (columns-pass (take n out′) id woven-image-passes) in
-        decide-alike (widthIn bs) (caresOf xs) (valuesOf xs) (decisionsOf xs) (caresOf ys) (valuesOf ys) (decisionsOf ys) h fine (columns-pass bs id woven-source-passes)
-        (ap (λ (rs : List Rule). answer rs h) (rules-columns xs ∙ woven-image-list id)
-        ∙ weave-keeps-answers (widthIn bs) ys (list-facts bs id woven-source-passes .valid) h ∙ ap (λ (rs : List Rule). answer rs h) (sym (rules-columns ys)))
+    squeezed-image-lookup id h = go (decLt h (2 ^ widthIn bs))
+      where
+        xs : List Rule
+        xs = listWith (take n out′) id
+
+        ys : List Rule
+        ys = listWith bs id
+
+        new : checkList (widthIn bs) 1 (caresOf xs) (valuesOf xs) (decisionsOf xs) ≡ passed
+        new =
+            subst (λ (w : ℕ). checkList w 1 (caresOf xs) (valuesOf xs) (decisionsOf xs) ≡ passed) (squeezed-image-head .1) (columns-pass (take n out′) id squeezed-image-passes)
+
+        old : checkList (widthIn bs) 1 (caresOf ys) (valuesOf ys) (decisionsOf ys) ≡ passed
+        old = columns-pass bs id squeezed-source-passes
+
+        go : Dec (h < 2 ^ widthIn bs)
+            → decided (lookedUp (widthIn bs) (caresOf xs) (valuesOf xs) (decisionsOf xs) h) ≡ decided (lookedUp (widthIn bs) (caresOf ys) (valuesOf ys) (decisionsOf ys) h)
+        go (yes l) =
+            decide-alike (widthIn bs) (caresOf xs) (valuesOf xs) (decisionsOf xs) (caresOf ys) (valuesOf ys) (decisionsOf ys) h new old
+            (ap (λ (rs : List Rule). answer rs h) (rules-columns xs ∙ squeezed-image-list id)
+            ∙ squeezed-answers z (widthIn bs) ys (list-facts bs id squeezed-source-passes .valid) h l ∙ ap (λ (rs : List Rule). answer rs h) (sym (rules-columns ys)))
+        go (no m) = ap decided (looked-past (widthIn bs) _ _ _ h new (omega arith) ∙ sym (looked-past (widthIn bs) _ _ _ h old (omega arith)))
 
 -- ---- `tally` counted
 
@@ -206,10 +226,10 @@ module _ (bs : List ℕ) (id : ℕ) (t : Tally) (T : wovenReply (Woven.Done t) �
 
   -- The entries kept are those that the woven image's list with that id has.
   pub tally-of-woven : (out out′ : List ℕ) (n : ℕ) → ImageWoven bs out (NumberAnswer.Number n) out′ → AreBytes bs → t .kept ≡ length (listWith (take n out′) id)
-  tally-of-woven out out′ n W b = keeps ∙ ap length (sym (woven-image-list bs out out′ n W b id))
+  tally-of-woven out out′ n W b = keeps ∙ ap length (sym (squeezed-image-list Squeeze.Weave bs out out′ n W b id))
 
 -- ---- refused
 
--- A refused `weave_image` leaves the lent bytes as they were.
-pub refused-leaves-image : (bs out out′ : List ℕ) (x : Refusal) → ImageWoven bs out (NumberAnswer.Refused x) out′ → out′ ≡ out
-refused-leaves-image bs out out′ x W = rw (sym (W .answer)) at (W .bytes)
+-- A refused `weave_image` or `prune_image` leaves the lent bytes as they were.
+pub refused-leaves-image : (z : Squeeze) (bs out out′ : List ℕ) (x : Refusal) → ImageSqueezed z bs out (NumberAnswer.Refused x) out′ → out′ ≡ out
+refused-leaves-image z bs out out′ x W = rw (sym (W .answer)) at (W .bytes)

@@ -1,6 +1,6 @@
--- The laws of weaving images, for this crate's proofs and for the crates above it.
+-- The laws of squeezing images, for this crate's proofs and for the crates above it.
 pub mod OneLaws
-pub mod WovenLaws
+pub mod SqueezedLaws
 pub mod NextLaws
 pub mod LoopLaws
 pub mod WriteLaws

@@ -1,4 +1,4 @@
--- All lists of an accepted image woven, list after list.
+-- All lists of an accepted image squeezed, list after list.
 use mathlib.Core.Path.{_≡_, refl, _∙_, subst}
 use mathlib.Core.List.{List}
 use Prim.Native.Nat.{ℕ, _≤_}
@@ -8,21 +8,22 @@ use Rattle.rules.specs.declared.Refusal.{Refusal}
 use Rattle.image.specs.declared.NumberAnswer.{NumberAnswer}
 use Rattle.image_form.specs.Images.{countIn}
 use Rattle.image_writer.specs.Writing.{sumOf, listsFrom}
-use Rattle.image_weaving.specs.Weaving.{wovenLists}
-use Rattle.image_weaving.specs.Parts.{RoomForAll, ListsWoven, WovenUpTo}
+use Rattle.image_weaving.specs.declared.Squeeze.{Squeeze}
+use Rattle.image_weaving.specs.Squeezing.{squeezedLists}
+use Rattle.image_weaving.specs.Parts.{RoomForAll, ListsSqueezed, SqueezedUpTo}
 
 -- before the first
-pub none-woven : (b ids ns cs vs ds : List ℕ) → ListsWoven b 0 0 ids ns cs vs ds
-unfolding sumOf listsFrom wovenLists
-none-woven b ids ns cs vs ds = record { fits = omega arith; sums = refl; lists = refl }
+pub none-squeezed : (z : Squeeze) (b ids ns cs vs ds : List ℕ) → ListsSqueezed z b 0 0 ids ns cs vs ds
+unfolding sumOf listsFrom squeezedLists
+none-squeezed z b ids ns cs vs ds = record { fits = omega arith; sums = refl; lists = refl }
 
-module _ (b : List ℕ) (k : ℕ) (r : NumberAnswer) (ids ns cs vs ds : List ℕ) (W : WovenUpTo b k r ids ns cs vs ds) where
+module _ (z : Squeeze) (b : List ℕ) (k : ℕ) (r : NumberAnswer) (ids ns cs vs ds : List ℕ) (W : SqueezedUpTo z b k r ids ns cs vs ds) where
   -- it is not refused
   pub up-not-refused : {x : Refusal} → r ≡ NumberAnswer.Refused x → ⊥
-  up-not-refused e = subst (λ (o : NumberAnswer). WovenUpTo b k o ids ns cs vs ds) e W
+  up-not-refused e = subst (λ (o : NumberAnswer). SqueezedUpTo z b k o ids ns cs vs ds) e W
 
-  pub up-woven : (n : ℕ) → r ≡ NumberAnswer.Number n → ListsWoven b k n ids ns cs vs ds
-  up-woven n e = subst (λ (o : NumberAnswer). WovenUpTo b k o ids ns cs vs ds) e W
+  pub up-squeezed : (n : ℕ) → r ≡ NumberAnswer.Number n → ListsSqueezed z b k n ids ns cs vs ds
+  up-squeezed n e = subst (λ (o : NumberAnswer). SqueezedUpTo z b k o ids ns cs vs ds) e W
 
 -- slices that are as long as before are as ready
 pub still-ready : (b ids ns cs vs ds ids′ ns′ cs′ vs′ ds′ : List ℕ) → RoomForAll b ids ns cs vs ds → length ids′ ≡ length ids → length ns′ ≡ length ns
@@ -39,8 +40,8 @@ still-ready b ids ns cs vs ds ids′ ns′ cs′ vs′ ds′ R i n c v d =
     }
 
 -- after the last
-pub all-woven : (b : List ℕ) (k n lists : ℕ) (ids ns cs vs ds : List ℕ) → lists ≡ countIn b → lists ≤ k → k ≤ countIn b → ListsWoven b k n ids ns cs vs ds
-    → ListsWoven b (countIn b) n ids ns cs vs ds
-all-woven b k n lists ids ns cs vs ds e l m W =
+pub all-squeezed : (z : Squeeze) (b : List ℕ) (k n lists : ℕ) (ids ns cs vs ds : List ℕ) → lists ≡ countIn b → lists ≤ k → k ≤ countIn b → ListsSqueezed z b k n ids ns cs vs ds
+    → ListsSqueezed z b (countIn b) n ids ns cs vs ds
+all-squeezed z b k n lists ids ns cs vs ds e l m W =
     let same : k ≡ countIn b = omega arith in
-    subst (λ (i : ℕ). ListsWoven b i n ids ns cs vs ds) same W
+    subst (λ (i : ℕ). ListsSqueezed z b i n ids ns cs vs ds) same W

@@ -1,4 +1,4 @@
--- The lists of an accepted image, woven one after the other: from the first k lists to one list more.
+-- The lists of an accepted image, squeezed one after the other: from the first k lists to one list more.
 use mathlib.Core.Path.{_≡_, refl, sym, ap, ap₂, _∙_, subst}
 use mathlib.Core.List.{List, [], _∷_, _++_}
 use Prim.Native.Nat.{ℕ, _+_, _-_, _*_, _≤_, _<_}
@@ -16,9 +16,7 @@ use Rattle.rules.proofs.ReplyLaws.{then-next, gives-refuses, bare-first}
 use Rattle.rules.proofs.SliceLaws.{rules-append, rules-columns, rules-length}
 use Rattle.weaving.specs.declared.Tally.{Tally}
 use Rattle.weaving.specs.declared.Woven.{Woven}
-use Rattle.weaving.specs.Weave.{weave, kept, dropped, merges}
 use Rattle.weaving.specs.Calls.{wovenReply}
-use Rattle.weaving.proofs.Theorems.{never-longer}
 use Rattle.image_form.specs.declared.Entry.{Entry}
 use Rattle.image_form.specs.Images.{Named, named, entryIn, formatIn, widthIn, countIn, listsOf}
 use Rattle.image_form.specs.Parts.{entryFrom}
@@ -35,10 +33,11 @@ use Rattle.image_writer.proofs.AgainLaws.{Carried, allRules}
 use Rattle.image_writer.proofs.CarryLaws.{image-carried, ids-fit, sum-counts, length-column, length-words}
 use Rattle.image_writer.proofs.ListLaws.{listAt, named-at, entry-gives, read-gives, cut-back, columns-lent}
 use Rattle.image_writer.proofs.CollectLaws.{lent-passes}
-use Rattle.image_weaving.specs.Weaving.{wovenLists, tallyReply}
-use Rattle.image_weaving.specs.Parts.{HoldsRules, RoomFor, ListWoven, RoomForAll, ListsWoven}
+use Rattle.image_weaving.specs.declared.Squeeze.{Squeeze}
+use Rattle.image_weaving.specs.Squeezing.{squeezed, squeezedLists}
+use Rattle.image_weaving.specs.Parts.{HoldsRules, lost, squeezeCounts, RoomFor, ListSqueezed, RoomForAll, ListsSqueezed}
 use Rattle.image.proofs.ReadLaws.{bare-id, take-room}
-use Rattle.image_weaving.proofs.WovenLaws.{woven-more, woven-fewer, rules-split, rules-at, carried-rules}
+use Rattle.image_weaving.proofs.SqueezedLaws.{squeezed-never-longer, squeezed-more, squeezed-fewer, rules-split, rules-at, carried-rules}
 
 -- ---- an accepted image
 
@@ -107,8 +106,8 @@ front-more a n m s o x l h e z p =
 abbrev heldRules : (end : ℕ) → (cs vs ds : List ℕ) → List Rule
 heldRules n cs vs ds = rulesOf (take (n * 2) cs) (take (n * 2) vs) (take n ds)
 
--- the first k lists are woven, and there are more
-module _ (b : List ℕ) (k from : ℕ) (ids ns cs vs ds : List ℕ) (R : RoomForAll b ids ns cs vs ds) (below : k < countIn b) (L : ListsWoven b k from ids ns cs vs ds) where
+-- the first k lists are squeezed, and there are more
+module _ (z : Squeeze) (b : List ℕ) (k from : ℕ) (ids ns cs vs ds : List ℕ) (R : RoomForAll b ids ns cs vs ds) (below : k < countIn b) (L : ListsSqueezed z b k from ids ns cs vs ds) where
   pub next-place : k < 16
   next-place = omega (arith, accepted-few b (R .bytes) (R .accepted))
 
@@ -132,7 +131,7 @@ module _ (b : List ℕ) (k from : ℕ) (ids ns cs vs ds : List ℕ) (R : RoomFor
   held-long = rules-length _ _ _ held-lent ∙ length-take-le from ds (omega (arith, R .decisions, L .fits))
 
   -- so far there are no more rules than in the lists themselves
-  end-is : from ≡ allRules (wovenLists (widthIn b) (take k (listsOf b)))
+  end-is : from ≡ allRules (squeezedLists z (widthIn b) (take k (listsOf b)))
   end-is =
       sym (L .sums)
       ∙ ap sumOf (sym (cut-back (take k ids) (take k ns) (heldRules from cs vs ds) (counts-long ∙ sym names-long) (L .sums ∙ sym held-long) .1))
@@ -145,7 +144,7 @@ module _ (b : List ℕ) (k from : ℕ) (ids ns cs vs ds : List ℕ) (R : RoomFor
       omega (
         arith,
         end-is,
-        woven-fewer (widthIn b) (take k (listsOf b)),
+        squeezed-fewer z (widthIn b) (take k (listsOf b)),
         rules-split k (listsOf b),
         rules-at k (listsOf b) inside,
         carried-rules (formatIn b) (widthIn b) (listsOf b) (accepted-carried b (R .bytes) (R .accepted)),
@@ -169,9 +168,8 @@ module _ (b : List ℕ) (k from : ℕ) (ids ns cs vs ds : List ℕ) (R : RoomFor
           room = λ f. omega (arith, R .decisions, d, next-room, ap length next-list);
         }
 
-    module _ (r : Woven) (oc ov od : List ℕ) (W : ListWoven b id r oc ov od) where
-      said : wovenReply r ≡ Gives (kept (widthIn b) (listWith b id) ∷ dropped (listWith b id) ∷ merges (widthIn b) (listWith b id) ∷ [])
-      unfolding tallyReply
+    module _ (r : Woven) (oc ov od : List ℕ) (W : ListSqueezed z b id r oc ov od) where
+      said : wovenReply r ≡ squeezeCounts z (widthIn b) (listWith b id)
       said = W .reply ∙ then-next _ _ (place-passes b (R .bytes) (R .accepted) k below id e)
 
       -- it is not refused
@@ -179,41 +177,41 @@ module _ (b : List ℕ) (k from : ℕ) (ids ns cs vs ds : List ℕ) (R : RoomFor
       next-not-refused p = gives-refuses (sym said ∙ ap wovenReply p)
 
       module _ (t : Tally) (p : r ≡ Woven.Done t) where
-        abbrev woven : List Rule
-        woven = weave (widthIn b) (listAt (listsOf b) k .rules)
+        abbrev left : List Rule
+        left = squeezed z (widthIn b) (listAt (listsOf b) k .rules)
 
-        next-kept : t .kept ≡ length woven
+        next-kept : t .kept ≡ length left
         next-kept =
-            let q : Gives (t .kept ∷ t .dropped ∷ t .merged ∷ []) ≡ Gives (kept (widthIn b) (listWith b id) ∷ dropped (listWith b id) ∷ merges (widthIn b) (listWith b id) ∷ []) = sym (ap wovenReply p) ∙ said in
-            let same : t .kept ≡ kept (widthIn b) (listWith b id) = cc in
-            same ∙ ap (kept (widthIn b)) next-list
+            let q : Gives (t .kept ∷ t .dropped ∷ t .merged ∷ []) ≡ Gives (length (squeezed z (widthIn b) (listWith b id)) ∷ lost z (widthIn b) (listWith b id)) = sym (ap wovenReply p) ∙ said in
+            let same : t .kept ≡ length (squeezed z (widthIn b) (listWith b id)) = cc in
+            same ∙ ap (λ (rs : List Rule). length (squeezed z (widthIn b) rs)) next-list
 
         pub next-fits : from + t .kept ≤ 3640
-        next-fits = omega (arith, next-room, next-kept, never-longer (widthIn b) (listAt (listsOf b) k .rules))
+        next-fits = omega (arith, next-room, next-kept, squeezed-never-longer z (widthIn b) (listAt (listsOf b) k .rules))
 
-        holds : HoldsRules woven oc ov od
-        holds = subst (λ (rs : List Rule). HoldsRules (weave (widthIn b) rs) oc ov od) next-list (W .held t p)
+        holds : HoldsRules left oc ov od
+        holds = subst (λ (rs : List Rule). HoldsRules (squeezed z (widthIn b) rs) oc ov od) next-list (W .held t p)
 
-        -- with it, one list more is woven
+        -- with it, one list more is squeezed
         module _ (xc xv xd : List ℕ) where
           abbrev first : List ℕ → List ℕ
           first l = take (from * 2) l
 
-          rules-next : heldRules (from + t .kept) (first cs ++ (oc ++ xc)) (first vs ++ (ov ++ xv)) (take from ds ++ (od ++ xd)) ≡ heldRules from cs vs ds ++ woven
+          rules-next : heldRules (from + t .kept) (first cs ++ (oc ++ xc)) (first vs ++ (ov ++ xv)) (take from ds ++ (od ++ xd)) ≡ heldRules from cs vs ds ++ left
           rules-next =
-              let twice : (from + t .kept) * 2 ≡ from * 2 + length woven * 2 = omega (arith, next-kept) in
+              let twice : (from + t .kept) * 2 ≡ from * 2 + length left * 2 = omega (arith, next-kept) in
               (λ j. rulesOf
-              (front-more (from * 2) (length woven * 2) ((from + t .kept) * 2) cs oc xc (caresOf woven) (omega (arith, R .cares, L .fits)) twice (length-words careOf woven) (holds .cares) j)
-              (front-more (from * 2) (length woven * 2) ((from + t .kept) * 2) vs ov xv (valuesOf woven) (omega (arith, R .values, L .fits)) twice (length-words valueOf woven) (holds .values) j)
-              (front-more from (length woven) (from + t .kept) ds od xd (decisionsOf woven) (omega (arith, R .decisions, L .fits)) (omega (arith, next-kept)) (length-column decisionOf woven) (holds .decisions) j))
+              (front-more (from * 2) (length left * 2) ((from + t .kept) * 2) cs oc xc (caresOf left) (omega (arith, R .cares, L .fits)) twice (length-words careOf left) (holds .cares) j)
+              (front-more (from * 2) (length left * 2) ((from + t .kept) * 2) vs ov xv (valuesOf left) (omega (arith, R .values, L .fits)) twice (length-words valueOf left) (holds .values) j)
+              (front-more from (length left) (from + t .kept) ds od xd (decisionsOf left) (omega (arith, R .decisions, L .fits)) (omega (arith, next-kept)) (length-column decisionOf left) (holds .decisions) j))
               ∙ rules-append _ _ _ _ _ _ held-lent
-              ∙ ap (λ (l : List Rule). heldRules from cs vs ds ++ l) (rules-columns woven)
+              ∙ ap (λ (l : List Rule). heldRules from cs vs ds ++ l) (rules-columns left)
 
           one-more : (l : List ℕ) (n : ℕ) → k < length l → take (k + 1) (set l k n) ≡ take k l ++ (n ∷ [])
           one-more l n m = ap (λ (i : ℕ). take i (set l k n)) (add-one k) ∙ take-suc-set l k n m
 
-          pub next-woven : ListsWoven b (k + 1) (from + t .kept) (set ids k id) (set ns k (t .kept)) (first cs ++ (oc ++ xc)) (first vs ++ (ov ++ xv)) (take from ds ++ (od ++ xd))
-          next-woven =
+          pub next-squeezed : ListsSqueezed z b (k + 1) (from + t .kept) (set ids k id) (set ns k (t .kept)) (first cs ++ (oc ++ xc)) (first vs ++ (ov ++ xv)) (take from ds ++ (od ++ xd))
+          next-squeezed =
               let names = one-more ids id (omega (arith, R .ids, next-place)) in
               let counts = one-more ns (t .kept) (omega (arith, R .counts, next-place)) in
               record {
@@ -221,7 +219,7 @@ module _ (b : List ℕ) (k from : ℕ) (ids ns cs vs ds : List ℕ) (R : RoomFor
                 sums = ap sumOf counts ∙ sum-more (take k ns) (t .kept) ∙ ap (λ (n : ℕ). n + t .kept) (L .sums);
                 lists =
                     (λ j. listsFrom (names j) ((counts ∙ ap (λ (n : ℕ). take k ns ++ (n ∷ [])) next-kept) j) (rules-next j))
-                    ∙ cut-more (take k ids) (take k ns) (heldRules from cs vs ds) id woven (counts-long ∙ sym names-long) (L .sums ∙ sym held-long)
-                    ∙ ap₂ (λ (l : List Named) (i : ℕ). l ++ (named i woven ∷ [])) (L .lists) (e ∙ place-id b (R .bytes) (R .accepted) k below)
-                    ∙ sym (woven-more (widthIn b) (listsOf b) k inside);
+                    ∙ cut-more (take k ids) (take k ns) (heldRules from cs vs ds) id left (counts-long ∙ sym names-long) (L .sums ∙ sym held-long)
+                    ∙ ap₂ (λ (l : List Named) (i : ℕ). l ++ (named i left ∷ [])) (L .lists) (e ∙ place-id b (R .bytes) (R .accepted) k below)
+                    ∙ sym (squeezed-more z (widthIn b) (listsOf b) k inside);
               }

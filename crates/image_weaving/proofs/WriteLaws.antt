@@ -1,4 +1,4 @@
--- The woven lists of an accepted image, written: what the writer answers and leaves is the woven image.
+-- The squeezed lists of an accepted image, written: what the writer answers and leaves is the squeezed image.
 use mathlib.Core.Path.{_≡_, refl, sym, ap, ap₂, _∙_}
 use mathlib.Core.List.{List, [], _∷_}
 use Prim.Native.Nat.{ℕ, suc, _*_, _≤_, _<_}
@@ -25,11 +25,12 @@ use Rattle.image_writer.proofs.CarryLaws.{namesOf, countsOf, joined, carried-wr
 use Rattle.image_writer.proofs.ListLaws.{cut-back}
 use Rattle.image_writer.proofs.GivenLaws.{Shape, shape-passes}
 use Rattle.image_writer.proofs.WriteLaws.{write-facts, length-image}
-use Rattle.image_weaving.specs.Weaving.{wovenLists, wovenBytes, weaveImageReply, ImageWoven}
-use Rattle.image_weaving.specs.Parts.{RoomForAll, ListsWoven, WovenUpTo}
-use Rattle.image_weaving.proofs.WovenLaws.{length-woven, woven-carried}
+use Rattle.image_weaving.specs.declared.Squeeze.{Squeeze}
+use Rattle.image_weaving.specs.Squeezing.{squeezedLists, squeezedBytes, squeezeImageReply, ImageSqueezed}
+use Rattle.image_weaving.specs.Parts.{RoomForAll, ListsSqueezed, SqueezedUpTo}
+use Rattle.image_weaving.proofs.SqueezedLaws.{length-squeezed, squeezed-carried}
 use Rattle.image_weaving.proofs.NextLaws.{accepted-carried, accepted-few}
-use Rattle.image_weaving.proofs.LoopLaws.{up-woven}
+use Rattle.image_weaving.proofs.LoopLaws.{up-squeezed}
 
 -- numbers that are bytes one by one are bytes
 pub all-bytes : (b : List ℕ) → ((i : ℕ) → getD b i 0 < 256) → AreBytes b
@@ -40,11 +41,11 @@ pub some-bytes : (b : List ℕ) → imageCheck b ≡ passed → 4 ≤ length b
 some-bytes b f = image-facts b [] f .head .least
 
 -- the image is refused
-pub image-refused : (b out : List ℕ) (v : Verdict) {x : Refusal} → verdictReply v ≡ imageCheck b → v ≡ Verdict.Refused x → ImageWoven b out (NumberAnswer.Refused x) out
-unfolding weaveImageReply
-image-refused b out v {x} p q =
-    let e : weaveImageReply b out ≡ refusalReply x = then-stop (imageCheck b) _ x (sym p ∙ ap verdictReply q) in
-    record { answer = sym e; bytes = ap (λ (u : Reply). unlessRefused u (filled (wovenBytes b) out) out) (sym e) }
+pub image-refused : (z : Squeeze) (b out : List ℕ) (v : Verdict) {x : Refusal} → verdictReply v ≡ imageCheck b → v ≡ Verdict.Refused x → ImageSqueezed z b out (NumberAnswer.Refused x) out
+unfolding squeezeImageReply
+image-refused z b out v {x} p q =
+    let e : squeezeImageReply z b out ≡ refusalReply x = then-stop (imageCheck b) _ x (sym p ∙ ap verdictReply q) in
+    record { answer = sym e; bytes = ap (λ (u : Reply). unlessRefused u (filled (squeezedBytes z b) out) out) (sym e) }
 
 -- slices as long as they are made are ready
 pub made-ready : (b ids ns cs vs ds : List ℕ) → imageCheck b ≡ passed → ((i : ℕ) → getD b i 0 < 256) → length ids ≡ 16 → length ns ≡ 16
@@ -52,17 +53,17 @@ pub made-ready : (b ids ns cs vs ds : List ℕ) → imageCheck b ≡ passed → 
 made-ready b ids ns cs vs ds f h i n c v d =
     record { accepted = f; bytes = all-bytes b h; ids = i; counts = n; cares = c; values = v; decisions = d }
 
--- all lists are woven
-module _ (b : List ℕ) (r : NumberAnswer) (ids ns cs vs ds : List ℕ) (U : WovenUpTo b (countIn b) r ids ns cs vs ds × RoomForAll b ids ns cs vs ds) (n : ℕ) (e : r ≡ NumberAnswer.Number n) where
+-- all lists are squeezed
+module _ (z : Squeeze) (b : List ℕ) (r : NumberAnswer) (ids ns cs vs ds : List ℕ) (U : SqueezedUpTo z b (countIn b) r ids ns cs vs ds × RoomForAll b ids ns cs vs ds) (n : ℕ) (e : r ≡ NumberAnswer.Number n) where
   ready : RoomForAll b ids ns cs vs ds
   ready = U .1
 
-  woven : ListsWoven b (countIn b) n ids ns cs vs ds
-  woven = up-woven b (countIn b) r ids ns cs vs ds (U .0) n e
+  done : ListsSqueezed z b (countIn b) n ids ns cs vs ds
+  done = up-squeezed z b (countIn b) r ids ns cs vs ds (U .0) n e
 
   -- how many of the places are taken
   pub end-fits : n ≤ 3640
-  end-fits = woven .fits
+  end-fits = done .fits
 
   module _ (k : ℕ) (same : k ≡ countIn b) where
     pub room-ids : k ≤ length ids
@@ -78,13 +79,13 @@ module _ (b : List ℕ) (r : NumberAnswer) (ids ns cs vs ds : List ℕ) (U : Wov
     long-counts = sym (length-take-le k ns room-counts)
 
   pub room-cares : n * 2 ≤ length cs
-  room-cares = omega (arith, ready .cares, woven .fits)
+  room-cares = omega (arith, ready .cares, done .fits)
 
   pub room-values : n * 2 ≤ length vs
-  room-values = omega (arith, ready .values, woven .fits)
+  room-values = omega (arith, ready .values, done .fits)
 
   pub room-decisions : n ≤ length ds
-  room-decisions = omega (arith, ready .decisions, woven .fits)
+  room-decisions = omega (arith, ready .decisions, done .fits)
 
   pub long-cares : n * 2 ≡ length (take (n * 2) cs)
   long-cares = sym (length-take-le (n * 2) cs room-cares)
@@ -96,10 +97,10 @@ module _ (b : List ℕ) (r : NumberAnswer) (ids ns cs vs ds : List ℕ) (U : Wov
   long-decisions = sym (length-take-le n ds room-decisions)
 
   abbrev lists : List Named
-  lists = wovenLists (widthIn b) (listsOf b)
+  lists = squeezedLists z (widthIn b) (listsOf b)
 
-  woven-lists-carried : Carried (formatIn b) (widthIn b) lists
-  woven-lists-carried = woven-carried (formatIn b) (widthIn b) (listsOf b) (accepted-carried b (ready .bytes) (ready .accepted))
+  lists-carried : Carried (formatIn b) (widthIn b) lists
+  lists-carried = squeezed-carried z (formatIn b) (widthIn b) (listsOf b) (accepted-carried b (ready .bytes) (ready .accepted))
 
   abbrev is : List ℕ
   is = take (countIn b) ids
@@ -126,16 +127,16 @@ module _ (b : List ℕ) (r : NumberAnswer) (ids ns cs vs ds : List ℕ) (U : Wov
   lent = record { values = sym long-values ∙ long-cares; decisions = ap (λ (k : ℕ). k * 2) (sym long-decisions) ∙ long-cares }
 
   sums : sumOf ms ≡ length d
-  sums = woven .sums ∙ long-decisions
+  sums = done .sums ∙ long-decisions
 
-  -- the writer is given the woven lists
+  -- the writer is given the squeezed lists
   given-lists : given is ms c v d ≡ lists
-  given-lists = woven .lists ∙ ap (wovenLists (widthIn b)) (take-all (countIn b) (listsOf b) (omega (arith, length-listsOf b)))
+  given-lists = done .lists ∙ ap (squeezedLists z (widthIn b)) (take-all (countIn b) (listsOf b) (omega (arith, length-listsOf b)))
 
   shape : Shape (formatIn b) (widthIn b) is ms c v d
   shape =
-      let k = woven-lists-carried in
-      let l = length-woven (widthIn b) (listsOf b) in
+      let k = lists-carried in
+      let l = length-squeezed z (widthIn b) (listsOf b) in
       record {
         format = k .format;
         least = k .low;
@@ -155,24 +156,24 @@ module _ (b : List ℕ) (r : NumberAnswer) (ids ns cs vs ds : List ℕ) (U : Wov
       let size : ℕ = imageLength (formatIn b) (length lists) (allRules lists) in
       let rs : List Rule = joined lists in
       let w = write-facts (formatIn b) (widthIn b) (namesOf lists) (countsOf lists) (caresOf rs) (valuesOf rs) (decisionsOf rs) size []
-      (carried-writes (formatIn b) (widthIn b) lists size woven-lists-carried (omega arith)) in
+      (carried-writes (formatIn b) (widthIn b) lists size lists-carried (omega arith)) in
       ap₂ (namesCheck 1 0) (sym (back .0) ∙ ap namesOf given-lists) (sym (back .1) ∙ ap countsOf given-lists) ∙ w .names
 
   rules-pass : listsCheck (widthIn b) 1 (given is ms c v d) ≡ passed
-  rules-pass = ap (listsCheck (widthIn b) 1) given-lists ∙ woven-lists-carried .rules
+  rules-pass = ap (listsCheck (widthIn b) 1) given-lists ∙ lists-carried .rules
 
-  size-is : imageLength (formatIn b) (length is) (length d) ≡ length (wovenBytes b)
-  unfolding wovenBytes
+  size-is : imageLength (formatIn b) (length is) (length d) ≡ length (squeezedBytes z b)
+  unfolding squeezedBytes
   size-is =
       sym (length-image (formatIn b) (widthIn b) is ms c v d shape) ∙ ap (λ (l : List Named). length (bytesOf (formatIn b) (widthIn b) l)) given-lists
 
   small : imageLength (formatIn b) (length is) (length d) ≤ 65536
-  unfolding wovenBytes
-  small = omega (arith, size-is, length-bytesOf (formatIn b) (widthIn b) lists woven-lists-carried, woven-lists-carried .size)
+  unfolding squeezedBytes
+  small = omega (arith, size-is, length-bytesOf (formatIn b) (widthIn b) lists lists-carried, lists-carried .size)
 
-  -- its answer is that of weaving the image
-  reply-same : (out : List ℕ) → writeReply (formatIn b) (widthIn b) is ms c v d out ≡ weaveImageReply b out
-  unfolding writeReply writeCheck weaveImageReply
+  -- its answer is that of squeezing the image
+  reply-same : (out : List ℕ) → writeReply (formatIn b) (widthIn b) is ms c v d out ≡ squeezeImageReply z b out
+  unfolding writeReply writeCheck squeezeImageReply
   reply-same out =
       ap (λ (u : Reply). u then Gives (imageLength (formatIn b) (length is) (length d) ∷ []))
       (then-next (shapeCheck (formatIn b) (widthIn b) is ms c v d) _ (shape-passes (formatIn b) (widthIn b) is ms c v d shape)
@@ -182,8 +183,8 @@ module _ (b : List ℕ) (r : NumberAnswer) (ids ns cs vs ds : List ℕ) (U : Wov
       ∙ ap (λ (k : ℕ). roomCheck k (length out) then Gives (k ∷ [])) size-is
       ∙ sym (then-next (imageCheck b) _ (ready .accepted))
 
-  written : (out out′ : List ℕ) (o : NumberAnswer) → Written (formatIn b) (widthIn b) is ms c v d out o out′ → ImageWoven b out o out′
-  unfolding wovenBytes
+  written : (out out′ : List ℕ) (o : NumberAnswer) → Written (formatIn b) (widthIn b) is ms c v d out o out′ → ImageSqueezed z b out o out′
+  unfolding squeezedBytes
   written out out′ o W =
       record {
         answer = W .answer ∙ reply-same out;
@@ -191,5 +192,5 @@ module _ (b : List ℕ) (r : NumberAnswer) (ids ns cs vs ds : List ℕ) (U : Wov
       }
 
   pub all-written : (out out′ : List ℕ) (o : NumberAnswer) (w k : ℕ) → w ≡ widthIn b → k ≡ countIn b
-      → Written (formatIn b) w (take k ids) (take k ns) c v d out o out′ → ImageWoven b out o out′
+      → Written (formatIn b) w (take k ids) (take k ns) c v d out o out′ → ImageSqueezed z b out o out′
   all-written out out′ o w k q s W = written out out′ o (rw (q, s) at W)

@@ -1,2 +1,3 @@
+pub mod Squeezing
 pub mod Weaving
 pub mod Parts

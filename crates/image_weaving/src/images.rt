@@ -1,12 +1,14 @@
-// All lists of an image, woven one after the other and written as an image again.
+// All lists of an image, squeezed one after the other and written as an image again.
 ghost use mathlib.Core.Path.{_≡_};
 ghost use Prim.Native.Nat.{_+_, _<_};
 ghost use Rattle.rules.specs.Replies.{passed};
 ghost use Rattle.image_form.specs.Images.{countIn};
 ghost use Rattle.image_check.specs.Checks.{imageCheck};
-ghost use Rattle.image_weaving.specs.Weaving.{ImageWoven};
-ghost use Rattle.image_weaving.specs.Parts.{RoomForAll, ListsWoven, WovenUpTo};
-use crate::lists::weave_list;
+ghost use Rattle.image_weaving.specs.Squeezing.{ImageSqueezed};
+ghost use Rattle.image_weaving.specs.Weaving.{ImageWoven, ImagePruned};
+ghost use Rattle.image_weaving.specs.Parts.{RoomForAll, ListsSqueezed, SqueezedUpTo};
+use crate::Squeeze;
+use crate::lists::squeeze_list;
 use image::NumberAnswer;
 use image::check;
 use image_form::byte_at;
@@ -15,8 +17,9 @@ use image_writer::write;
 use rules::Verdict;
 use weaving::Woven;
 
-// Weaves list k, counted from 0, after the lists before it, whose rules end at `from`. The answer is where its own rules end.
-fn weave_next(
+// Squeezes list k, counted from 0, after the lists before it, whose rules end at `from`. The answer is where its own rules end.
+fn squeeze_next(
+    squeeze: Squeeze,
     image: &[u8],
     k: usize,
     from: usize,
@@ -27,14 +30,15 @@ fn weave_next(
     decision: &mut [u16],
 ) -> NumberAnswer
     requires { ⌜ RoomForAll (now image) (now ids) (now counts) (now care) (now value) (now decision) × (k < countIn (now image))
-        × ListsWoven (now image) k from (now ids) (now counts) (now care) (now value) (now decision) ⌝ }
-    ensures { λ r. ⌜ WovenUpTo (now (image .entry)) (k + 1) r
+        × ListsSqueezed squeeze (now image) k from (now ids) (now counts) (now care) (now value) (now decision) ⌝ }
+    ensures { λ r. ⌜ SqueezedUpTo squeeze (now (image .entry)) (k + 1) r
         (now (ids .exit)) (now (counts .exit)) (now (care .exit)) (now (value .exit)) (now (decision .exit)) ⌝ }
 {
     let entry = entry_in(image, 4 + 8 * k);
     let id = entry.id as u16;
     let first = from * 2;
-    let w = weave_list(
+    let w = squeeze_list(
+        squeeze,
         image,
         id,
         &mut care[first..],
@@ -51,8 +55,9 @@ fn weave_next(
     }
 }
 
-// Weaves every list of an accepted image, and answers how many rules there are then.
-fn weave_lists(
+// Squeezes every list of an accepted image, and answers how many rules there are then.
+fn squeeze_lists(
+    squeeze: Squeeze,
     image: &[u8],
     ids: &mut [u16],
     counts: &mut [u16],
@@ -61,7 +66,7 @@ fn weave_lists(
     decision: &mut [u16],
 ) -> NumberAnswer
     requires { ⌜ RoomForAll (now image) (now ids) (now counts) (now care) (now value) (now decision) ⌝ }
-    ensures { λ r. ⌜ WovenUpTo (now (image .entry)) (countIn (now (image .entry))) r
+    ensures { λ r. ⌜ SqueezedUpTo squeeze (now (image .entry)) (countIn (now (image .entry))) r
         (now (ids .exit)) (now (counts .exit)) (now (care .exit)) (now (value .exit)) (now (decision .exit))
         × RoomForAll (now (image .entry)) (now (ids .exit)) (now (counts .exit)) (now (care .exit)) (now (value .exit)) (now (decision .exit)) ⌝ }
 {
@@ -69,7 +74,7 @@ fn weave_lists(
     let mut from: usize = 0;
     let mut k: usize = 0;
     while k < lists {
-        let o = weave_next(image, k, from, ids, counts, care, value, decision);
+        let o = squeeze_next(squeeze, image, k, from, ids, counts, care, value, decision);
         match o {
             NumberAnswer::Refused(x) => return NumberAnswer::Refused(x),
             NumberAnswer::Number(n) => from = n,
@@ -79,10 +84,10 @@ fn weave_lists(
     NumberAnswer::Number(from)
 }
 
-// Weaves and writes an accepted image. No image has more than 3,640 rules: a rule takes 18 bytes or more of its 65,536.
-fn weave_accepted(image: &[u8], out: &mut [u8]) -> NumberAnswer
+// Squeezes and writes an accepted image. No image has more than 3,640 rules: a rule takes 18 bytes or more of its 65,536.
+fn squeeze_accepted(squeeze: Squeeze, image: &[u8], out: &mut [u8]) -> NumberAnswer
     requires { ⌜ imageCheck (now image) ≡ passed ⌝ }
-    ensures { λ r. ⌜ ImageWoven (now (image .entry)) (now (out .entry)) r (now (out .exit)) ⌝ }
+    ensures { λ r. ⌜ ImageSqueezed squeeze (now (image .entry)) (now (out .entry)) r (now (out .exit)) ⌝ }
 {
     let format = image[0];
     let mut ids = [0u16; 16];
@@ -90,7 +95,8 @@ fn weave_accepted(image: &[u8], out: &mut [u8]) -> NumberAnswer
     let mut care = [0u64; 7280];
     let mut value = [0u64; 7280];
     let mut decision = [0u16; 3640];
-    let o = weave_lists(
+    let o = squeeze_lists(
+        squeeze,
         image,
         &mut ids,
         &mut counts,
@@ -117,13 +123,27 @@ fn weave_accepted(image: &[u8], out: &mut [u8]) -> NumberAnswer
     }
 }
 
-// Weaves every list of an image into `out`: an image of the same format, width and ids. The image's refusal, then 7.
-pub fn weave_image(image: &[u8], out: &mut [u8]) -> NumberAnswer
-    ensures { λ r. ⌜ ImageWoven (now (image .entry)) (now (out .entry)) r (now (out .exit)) ⌝ }
+// Squeezes every list of an image into `out`. The image's refusal, then 7.
+fn squeeze_image(squeeze: Squeeze, image: &[u8], out: &mut [u8]) -> NumberAnswer
+    ensures { λ r. ⌜ ImageSqueezed squeeze (now (image .entry)) (now (out .entry)) r (now (out .exit)) ⌝ }
 {
     let v = check(image);
     match v {
         Verdict::Refused(x) => NumberAnswer::Refused(x),
-        Verdict::Fine => weave_accepted(image, out),
+        Verdict::Fine => squeeze_accepted(squeeze, image, out),
     }
+}
+
+// Weaves every list of an image into `out`: an image of the same format, width and ids. The image's refusal, then 7.
+pub fn weave_image(image: &[u8], out: &mut [u8]) -> NumberAnswer
+    ensures { λ r. ⌜ ImageWoven (now (image .entry)) (now (out .entry)) r (now (out .exit)) ⌝ }
+{
+    squeeze_image(Squeeze::Weave, image, out)
+}
+
+// Prunes every list of an image into `out`: an image of the same format, width and ids. The image's refusal, then 7.
+pub fn prune_image(image: &[u8], out: &mut [u8]) -> NumberAnswer
+    ensures { λ r. ⌜ ImagePruned (now (image .entry)) (now (out .entry)) r (now (out .exit)) ⌝ }
+{
+    squeeze_image(Squeeze::Prune, image, out)
 }

@@ -3,31 +3,31 @@ use Prim.Native.Nat.{_-_, _≤_}
 use native.Mathlib.Omega.{arith}
 use borrow.Author.Needs.{needs}
 use Rattle.image_form.specs.Images.{countIn}
-use Rattle.image_weaving.specs.Parts.{RoomForAll, ListsWoven}
-use Rattle.image_weaving.proofs.LoopLaws.{none-woven, up-not-refused, up-woven, still-ready, all-woven}
-use Rattle.image_weaving.proofs.images.weave_lists.Statement.{statement}
-use Rattle.image_weaving.proofs.images.weave_lists.Tie as tie
-use Rattle.image_weaving.proofs.images.weave_lists.Reads as reads
-use Rattle.image_weaving.proofs.images.weave_lists.Lts as lts
+use Rattle.image_weaving.specs.Parts.{RoomForAll, ListsSqueezed}
+use Rattle.image_weaving.proofs.LoopLaws.{none-squeezed, up-not-refused, up-squeezed, still-ready, all-squeezed}
+use Rattle.image_weaving.proofs.images.squeeze_lists.Statement.{statement}
+use Rattle.image_weaving.proofs.images.squeeze_lists.Tie as tie
+use Rattle.image_weaving.proofs.images.squeeze_lists.Reads as reads
+use Rattle.image_weaving.proofs.images.squeeze_lists.Lts as lts
 use Rattle.image_form.proofs.byte_at.Reads as byte-at-reads
-use Rattle.image_weaving.proofs.images.weave_next.Reads as weave-next-reads
+use Rattle.image_weaving.proofs.images.squeeze_next.Reads as squeeze-next-reads
 
 abbrev Inv-loop : tie.InvT-loop
-Inv-loop image ids₀ counts₀ care₀ value₀ decision₀ lists from₀ k₀ ids counts care value decision from k =
-    RoomForAll image ids counts care value decision × (k ≤ countIn image) × ListsWoven image k from ids counts care value decision
+Inv-loop squeeze image ids₀ counts₀ care₀ value₀ decision₀ lists from₀ k₀ ids counts care value decision from k =
+    RoomForAll image ids counts care value decision × (k ≤ countIn image) × ListsSqueezed squeeze image k from ids counts care value decision
 
 abbrev μ-loop : tie.MeasureT-loop
-μ-loop image ids₀ counts₀ care₀ value₀ decision₀ lists from₀ k₀ ids counts care value decision from k =
+μ-loop squeeze image ids₀ counts₀ care₀ value₀ decision₀ lists from₀ k₀ ids counts care value decision from k =
     countIn image - k
 
 byte-at-requires : tie.Need-byte-at-requires Inv-loop μ-loop
 byte-at-requires c κs = search needs
 
 loop-holds : tie.Need-loop-holds Inv-loop μ-loop
-loop-holds c = (c .before .before .before .before .before .before .before .pre, omega arith, none-woven _ _ _ _ _ _)
+loop-holds c = (c .before .before .before .before .before .before .before .pre, omega arith, none-squeezed _ _ _ _ _ _ _)
 
-weave-next-requires : tie.Need-weave-next-requires Inv-loop μ-loop
-weave-next-requires c κs = (c .before .before .before .before .before .before .loop .inv .0, omega (arith, c .before .before .before .before .before .loop-test, c .before .before .before .before .before .before .before .byte-at .ensures .0), c .before .before .before .before .before .before .loop .inv .2)
+squeeze-next-requires : tie.Need-squeeze-next-requires Inv-loop μ-loop
+squeeze-next-requires c κs = (c .before .before .before .before .before .before .loop .inv .0, omega (arith, c .before .before .before .before .before .loop-test, c .before .before .before .before .before .before .before .byte-at .ensures .0), c .before .before .before .before .before .before .loop .inv .2)
 
 enum-known-o : tie.Need-enum-known-o Inv-loop μ-loop
 enum-known-o c = search needs
@@ -48,7 +48,7 @@ same-length-5 : tie.Need-same-length-5 Inv-loop μ-loop
 same-length-5 c = c .before .before .before .before .decision .given ∙ c .before .before .before .before .before .before .before .before .before .before .before .before .before .before .before .before .before .before .before .before .loop .inv .0 .decisions ∙ sym (c .before .before .before .before .before .before .before .before .before .before .before .before .before .before .before .before .before .before .before .before .before .before .before .before .before .before .before .before .pre .decisions)
 
 returns : tie.Need-returns Inv-loop μ-loop
-returns c = absurd (up-not-refused _ _ _ _ _ _ _ _ (c .before .before .before .before .before .before .before .before .before .before .before .before .before .weave-next .ensures) (c .before .o .given .1))
+returns c = absurd (up-not-refused _ _ _ _ _ _ _ _ _ (c .before .before .before .before .before .before .before .before .before .before .before .before .before .squeeze-next .ensures) (c .before .o .given .1))
 
 enum-known-o-2 : tie.Need-enum-known-o-2 Inv-loop μ-loop
 enum-known-o-2 c = search needs
@@ -60,7 +60,7 @@ loop-less : tie.Need-loop-less Inv-loop μ-loop
 loop-less c = omega (arith, c .before .before .before .before .before .before .before .before .before .before .before .before .before .before .before .before .before .before .before .loop-test, c .before .before .before .before .before .before .before .before .before .before .before .before .before .before .before .before .before .before .before .before .before .byte-at .ensures .0)
 
 loop-again : tie.Need-loop-again Inv-loop μ-loop
-loop-again c = (still-ready _ _ _ _ _ _ _ _ _ _ _ (c .before .before .before .before .before .before .before .before .before .before .before .before .before .before .before .before .before .before .before .before .loop .inv .0) (c .before .before .before .before .before .before .before .before .before .before .before .before .ids .given) (c .before .before .before .before .before .before .before .before .before .before .counts .given) (c .before .before .before .before .before .before .before .before .care .given) (c .before .before .before .before .before .before .value .given) (c .before .before .before .before .decision .given), omega (arith, c .before .before .before .before .before .before .before .before .before .before .before .before .before .before .before .before .before .before .before .loop-test, c .before .before .before .before .before .before .before .before .before .before .before .before .before .before .before .before .before .before .before .before .before .byte-at .ensures .0), up-woven _ _ _ _ _ _ _ _ (c .before .before .before .before .before .before .before .before .before .before .before .before .before .weave-next .ensures) _ (c .before .o2 .given .1))
+loop-again c = (still-ready _ _ _ _ _ _ _ _ _ _ _ (c .before .before .before .before .before .before .before .before .before .before .before .before .before .before .before .before .before .before .before .before .loop .inv .0) (c .before .before .before .before .before .before .before .before .before .before .before .before .ids .given) (c .before .before .before .before .before .before .before .before .before .before .counts .given) (c .before .before .before .before .before .before .before .before .care .given) (c .before .before .before .before .before .before .value .given) (c .before .before .before .before .decision .given), omega (arith, c .before .before .before .before .before .before .before .before .before .before .before .before .before .before .before .before .before .before .before .loop-test, c .before .before .before .before .before .before .before .before .before .before .before .before .before .before .before .before .before .before .before .before .before .byte-at .ensures .0), up-squeezed _ _ _ _ _ _ _ _ _ (c .before .before .before .before .before .before .before .before .before .before .before .before .before .squeeze-next .ensures) _ (c .before .o2 .given .1))
 
 same-length-6 : tie.Need-same-length-6 Inv-loop μ-loop
 same-length-6 c = c .before .loop .inv .0 .ids ∙ sym (c .before .before .before .before .before .before .before .before .before .pre .ids)
@@ -78,17 +78,17 @@ same-length-10 : tie.Need-same-length-10 Inv-loop μ-loop
 same-length-10 c = c .before .loop .inv .0 .decisions ∙ sym (c .before .before .before .before .before .before .before .before .before .pre .decisions)
 
 returns-2 : tie.Need-returns-2 Inv-loop μ-loop
-returns-2 c = (all-woven _ _ _ _ _ _ _ _ _ (c .before .before .byte-at .ensures .0) (search needs) (c .before .loop .inv .1) (c .before .loop .inv .2), c .before .loop .inv .0)
+returns-2 c = (all-squeezed _ _ _ _ _ _ _ _ _ _ (c .before .before .byte-at .ensures .0) (search needs) (c .before .loop .inv .1) (c .before .loop .inv .2), c .before .loop .inv .0)
 
-pub weave-lists-spec : {M : Type 1} → statement M
-weave-lists-spec =
+pub squeeze-lists-spec : {M : Type 1} → statement M
+squeeze-lists-spec =
     tie.close
     (tie.spec
     Inv-loop
     μ-loop
     byte-at-requires
     loop-holds
-    weave-next-requires
+    squeeze-next-requires
     enum-known-o
     same-length
     same-length-2
