@@ -407,6 +407,27 @@ def weave(words):
     return woven
 
 
+def needed_at(words):
+    width, list, position = words.width(), words.list("list"), words.number("position")
+
+    def needed():
+        header = model.needed_at(width, *list, position)
+        return "nowhere" if header is None else "at %d" % header
+
+    return lambda: said(needed)
+
+
+def prune(words):
+    width, list = words.width(), words.list("list")
+    results, headers = words.list("into"), words.slice_of_words("headers")
+
+    def pruned():
+        text = said(lambda: "kept %d dropped %d" % model.prune(width, *list, *results, headers))
+        return "%s into %s headers %s" % (text, list_said(width, *results), words_said(headers))
+
+    return pruned
+
+
 def compare(words):
     width, old, new = words.width(), words.list("old"), words.list("new")
     start, results = words.header("start"), words.runs()
@@ -485,9 +506,12 @@ def tally(words):
     return lambda: said(lambda: "kept %d dropped %d merged %d" % model.tally(image, id))
 
 
-def weave_image(words):
-    image, out = words.bytes("image"), words.numbers("into", 255)
-    return lambda: said(model.weave_image, image, out) + " into " + numbers_said(out)
+def into_image(call):
+    def asked(words):
+        image, out = words.bytes("image"), words.numbers("into", 255)
+        return lambda: said(call, image, out) + " into " + numbers_said(out)
+
+    return asked
 
 
 def compare_lists(words):
@@ -570,6 +594,8 @@ CALLS = {
     "compose": compose,
     "runs": runs,
     "weave": weave,
+    "needed_at": needed_at,
+    "prune": prune,
     "compare": compare,
     "compare_outcomes": compare_outcomes,
     "check": on_image(model.check_image),
@@ -582,7 +608,8 @@ CALLS = {
     "read": read,
     "write": write,
     "tally": tally,
-    "weave_image": weave_image,
+    "weave_image": into_image(model.weave_image),
+    "prune_image": into_image(model.prune_image),
     "compare_lists": compare_lists,
     "compare_first": compare_first,
     "compare_list_outcomes": compare_list_outcomes,

@@ -133,6 +133,22 @@ class Maker:
         texts = [self.prefix(width) for _ in range(count)]
         return slices_of([(model.care_word(t), model.value_word(t), self.pick(1, 2, 3)) for t in texts])
 
+    def prunable_list(self, width, count):
+        """A list in which more rules do nothing: behind some of its rules stands a wider one with the same decision, before others their
+        two halves, and others stand in it twice."""
+        rules = model.rules_of(width, *self.list_of(width, count))
+        for text, decision in self.random.sample(rules, len(rules) // 2):
+            k, place, way = rules.index((text, decision)), self.random.randrange(width), self.random.randrange(5)
+            with_digit = lambda digit: text[:place] + digit + text[place + 1 :]
+            if way == 0:
+                rules.insert(self.random.randint(0, len(rules)), (text, decision))
+            elif text[place] != "*":
+                rules.insert(self.random.randint(k + 1, len(rules)), (with_digit("*"), decision))
+            else:
+                for digit in "01":
+                    rules.insert(self.random.randint(0, k), (with_digit(digit), self.pick(decision, self.decision())))
+        return slices_of([(model.care_word(text), model.value_word(text), decision) for text, decision in rules])
+
     def rule(self, width):
         return words_and_decisions(*self.list_of(width, 1))[0]
 
@@ -409,6 +425,12 @@ class Maker:
         room = self.room(need)
         return list_marks(*self.numbers(2 * room, 2 * room, room))
 
+    def pruned_marks(self, need):
+        """Result slices of a list, and a slice of headers beside it."""
+        room = self.room(need)
+        cares, values, decisions, headers = self.numbers(2 * room, 2 * room, room, 2 * room)
+        return "%s headers %s" % (list_marks(cares, values, decisions), word_marks(9, 20000, headers))
+
     def run_marks(self):
         """Result slices of a comparison."""
         room = self.pick(0, 1, 1, 2, 3, 5) if self.small else self.pick(0, 1, 1, 2, 3, 5, 20, 20, 40, 40)
@@ -527,6 +549,32 @@ def runs(make):
 def weave(make):
     _, list, text = listed(make, most=80 if make.chance(2) else 30, percent=10)
     return "weave %s into %s" % (text, make.list_marks(len(list[2])))
+
+
+def prunable(make):
+    """A list, most often one of which some rules do nothing, and its text behind that of its width."""
+    width = make.width()
+    few = make.prunable_list, 12
+    list_of, most = make.pick(few, few, (make.list_of, 20), (make.prefix_list, 60))
+    list = list_of(width, make.some(most))
+    if make.chance(10):
+        list = make.bad_list(width, list)
+    return list, "width %d list %s" % (make.any_width(width), list_said(width, *list))
+
+
+def needed_at(make):
+    """A position of the list, or now and then one that it has not."""
+    list, text = prunable(make)
+    count = len(list[2])
+    position = make.pick(count, count, count + 1, 2**63, 2**64 - 1)
+    if count and make.chance(90):
+        position = make.random.randrange(count)
+    return "needed_at %s position %d" % (text, position)
+
+
+def prune(make):
+    list, text = prunable(make)
+    return "prune %s into %s" % (text, make.pruned_marks(len(list[2])))
 
 
 def like(make, width, list):
@@ -701,14 +749,29 @@ def image(make):
     return text
 
 
-def weave_image(make):
-    """Lists that weaving makes shorter, and now and then a fault in the image."""
+def into_image(make, call, lists_of):
+    """An image with such lists and room for another one, and now and then a fault in the image."""
     width = make.width()
-    image = image_of(format_for(make, width), width, some_lists(make, width))
+    image = image_of(format_for(make, width), width, lists_of(make, width))
     if make.chance(25):
         image = bad_image(make, image)
     room = min(make.room(len(image)), MOST_BYTES)
-    return "weave_image image %s into [%d times %d]" % (numbers_said(image), room, make.pick(0, 7, 238))
+    return "%s image %s into [%d times %d]" % (call, numbers_said(image), room, make.pick(0, 7, 238))
+
+
+def weave_image(make):
+    """Lists that weaving makes shorter."""
+    return into_image(make, "weave_image", some_lists)
+
+
+def prunable_lists(make, width):
+    """Lists by their ids; of most of them some rules do nothing."""
+    lists = some_lists(make, width)
+    return {id: list if make.chance(30) else make.prunable_list(width, make.some(8, 1)) for id, list in lists.items()}
+
+
+def prune_image(make):
+    return into_image(make, "prune_image", prunable_lists)
 
 
 def tally(make):
@@ -938,6 +1001,7 @@ KINDS = {
     "swaps": {"prefix_swap": prefix_swap, "lookup_swapped": lookup_swapped, "swap": swaps},
     "weaving": {"runs": runs, "weave": weave},
     "compare": {"comparison": compare, "compare_outcomes": compare_outcomes},
+    "pruning": {"needed_at": needed_at, "prune": prune, "prune_image": prune_image},
     "image": {"images": image, "write": write},
     "woven": {"weave_image": weave_image, "tally": tally},
     "lists": {

@@ -28,6 +28,30 @@ def woven(width, rules):
     return [(model.pattern(width, c, v), d) for c, v, d in after[: counts[0]]], counts
 
 
+def pruned(width, rules):
+    """What pruning leaves of a list written with patterns, each rule with its header, in results with a place more than it takes."""
+    mark, left = (9 + 8 * model.HALF, 7 + 6 * model.HALF, 5), 4 + 3 * model.HALF
+    out, header = model.slices_of([mark] * (len(rules) + 1)), model.halves_of([left] * (len(rules) + 1))
+    kept, dropped = model.prune(width, *slices(rules), *out, header)
+    after, headers = model.words_and_decisions(*out), model.words_of(header)
+    assert after[kept:] == [(0, 0, 0)] * dropped + [mark] and headers[kept:] == [0] * dropped + [left]
+    return [(model.pattern(width, c, v), d) for c, v, d in after[:kept]], headers[:kept]
+
+
+def needed(width, rules):
+    """For each rule of a list written with patterns, and for the position behind them, the lowest header that needs it, or None."""
+    return [model.needed_at(width, *slices(rules), k) for k in range(len(rules) + 1)]
+
+
+def prune_refusal(width, rules, cares, values, decisions, headers):
+    """The refusal of pruning with results of so many numbers, none of which it changes; None where it is taken."""
+    before = [9] * cares, [8] * values, [7] * decisions, [6] * headers
+    results = [slice[:] for slice in before]
+    found = refusal(model.prune, width, *slices(rules), *results)
+    assert found is None or results == list(before)
+    return found
+
+
 def cut(width, rules):
     sizes = [0] * len(rules)
     return model.runs(width, *slices(rules), sizes), sizes
@@ -98,6 +122,24 @@ def examples():
     nested = slices([("00*", 7), ("0**", 7), ("***", 8)])
     yield [model.lookup(3, *nested, header) for header in (0, 2, 4)] == [(1, 7), (2, 7), (3, 8)]
     yield model.prefix_swap(4, [], [], []).order() == [1, 2, 3, 4]
+    rules = [("00*", 7), ("0**", 7), ("***", 8)]
+    yield pruned(3, rules) == (rules[1:], [0, 4]) and needed(3, rules) == [None, 2, 4, None]
+    crossed = [("00*", 7), ("*0*", 8), ("0**", 7), ("***", 8)]
+    yield pruned(3, crossed) == (crossed[2:], [0, 4]) and needed(3, crossed) == [0, None, 2, 6, None]
+    yield pruned(3, crossed[:3]) == (crossed[:3], [0, 4, 2])
+    yield pruned(2, [("0*", 1), ("0*", 1)]) == ([("0*", 1)], [0]) and needed(2, [("0*", 1), ("0*", 1)]) == [None] * 3
+    yield pruned(2, [("0*", 1), ("1*", 2), ("**", 3)]) == ([("0*", 1), ("1*", 2)], [0, 2])
+    yield pruned(2, [("00", 7), ("01", 7), ("10", 7), ("11", 7), ("**", 7)])[0] == all_seven("00", "01", "10", "11")
+    yield pruned(2, [("0*", 1), ("*0", 2), ("00", 3)]) == ([("0*", 1), ("*0", 2)], [0, 2])
+    yield pruned(5, []) == ([], []) and needed(5, []) == [None]
+    for width in (1, 64, 65, 104, 128):
+        last, stars = ("*" * (width - 1) + "1", 5), ("*" * width, 6)
+        yield pruned(width, [last, stars]) == ([last, stars], [1, 0]) and pruned(width, [stars, last]) == ([stars], [0])
+        yield pruned(width, [last, ("*" * width, 5)]) == ([("*" * width, 5)], [0])
+    yield [prune_refusal(3, rules, *sizes) for sizes in ((6, 6, 3, 6), (8, 8, 4, 8))] == [None] * 2
+    for sizes in (4, 6, 3, 6), (6, 5, 3, 6), (6, 6, 4, 6), (6, 6, 3, 5), (6, 6, 3, 8), (4, 4, 2, 6), (6, 6, 3, 3):
+        yield prune_refusal(3, rules, *sizes) == (2, 0, 0)
+    yield prune_refusal(3, rules, 4, 4, 2, 4) == (7, 0, 0) and prune_refusal(3, [("0**", none)], 4, 5, 0, 1) == (5, 1, 1)
     old, new = [("0**", 1)], [("00*", 1), ("1*1", 1)]
     runs = [(2, 3, 1, none), (5, 5, none, 1), (7, 7, none, 1)]
     yield compared(3, old, new) == (runs, None) and compared(3, old, new, room=1) == (runs[:1], 5)
@@ -202,6 +244,50 @@ def walks():
                 yield (model.distance_text(a, b) == 0) == any(of_a and of_b for of_a, of_b in both)
 
 
+def first_change(before, after):
+    """The first header for which two tables of answers differ, or None."""
+    return next((h for h, (a, b) in enumerate(zip(before, after)) if a != b), None)
+
+
+def kept_by_tables(width, rules):
+    """What pruning has to leave, by tables of every header's answer: from the last rule to the first."""
+    left = rules
+    for k in reversed(range(len(rules))):
+        shorter = left[:k] + left[k + 1 :]
+        if answers(width, shorter) == answers(width, left):
+            left = shorter
+    return left
+
+
+def pruning_walks():
+    """Random lists up to width 8, by tables of every header's answer: what pruning leaves answers as the list does, the header beside each
+    kept rule is the first for which the answer changes without it, and pruning once more leaves all. The model's two ways agree on every
+    rule of the list."""
+    make = cases.Maker(3)
+    for _ in range(500):
+        width = make.random.randint(1, 8)
+        rules = model.rules_of(width, *make.pick(make.list_of, make.prunable_list)(width, make.some(10)))
+        kept, headers = pruned(width, rules)
+        table = answers(width, kept)
+        yield kept == kept_by_tables(width, rules) and table == answers(width, rules)
+        yield headers == [first_change(table, answers(width, kept[:k] + kept[k + 1 :])) for k in range(len(kept))]
+        yield pruned(width, kept) == (kept, headers) and None not in headers
+        for k in range(len(rules)):
+            yield model.lowest_by_blocks(rules, k) == model.lowest_by_headers(width, rules, k)
+
+
+def wide_pruning_walks():
+    """Random lists of any width: the header of each rule against the first run of differences of the list and the list without it."""
+    make = cases.Maker(4)
+    for _ in range(300):
+        width = make.width()
+        rules = model.rules_of(width, *make.pick(make.list_of, make.prunable_list, make.prefix_list)(width, make.some(6)))
+        for k in range(len(rules)):
+            sides = (rules, model.NO_MATCH), (rules[:k] + rules[k + 1 :], model.NO_MATCH)
+            run = next(model.differences(width, *sides, 0), None)
+            yield model.lowest_by_blocks(rules, k) == (None if run is None else run[0])
+
+
 def every_prefix(field):
     """All prefixes of a field, each with its next shorter one; that of the whole field is None."""
     yield "*" * field, None
@@ -257,7 +343,7 @@ def folders(top):
 
 
 if __name__ == "__main__":
-    held = list(examples()) + list(walks()) + list(prefix_walks())
+    held = list(examples()) + list(walks()) + list(pruning_walks()) + list(wide_pruning_walks()) + list(prefix_walks())
     if len(sys.argv) > 1:
         held += folders(sys.argv[1])
     print("%d hold, %d do not" % (held.count(True), held.count(False)))

@@ -9,6 +9,8 @@ is one number. In a slice it is two, each below HALF, the low half first: so the
 two numbers to a rule, and the decisions have one. A call that refuses raises Refused and has then changed no list that it was
 lent.
 """
+import heapq
+import itertools
 
 WIDEST = 128  # places of a pattern
 HALF = 2**64  # a slice of words has numbers below this, two to a word
@@ -92,6 +94,11 @@ def matches(text, header):
 def covers_text(a, b):
     """Every header that matches b matches a: where a cares, b cares and asks for the same digit."""
     return all(x == "*" or x == y for x, y in zip(a, b))
+
+
+def meets_text(a, b):
+    """Some header matches both: no place where both care has different digits."""
+    return all(x == y or x == "*" or y == "*" for x, y in zip(a, b))
 
 
 def crosses_text(a, b):
@@ -565,6 +572,14 @@ def runs(width, care, value, decision, sizes):
     return len(lengths)
 
 
+def put_kept(kept, count, out_care, out_value, out_decision):
+    """Puts the rules that are kept into the results, and 0 up to the number of rules that there were."""
+    rest = [0] * (count - len(kept))
+    put_words(out_care, 0, [care_word(text) for text, _ in kept] + rest)
+    put_words(out_value, 0, [value_word(text) for text, _ in kept] + rest)
+    out_decision[:count] = [decision for _, decision in kept] + rest
+
+
 def weave(width, care, value, decision, out_care, out_value, out_decision):
     """Entries kept, rules dropped and merges made; the entries are put into the results, and 0 up to the number of rules."""
     check_list(width, care, value, decision)
@@ -577,10 +592,7 @@ def weave(width, care, value, decision, out_care, out_value, out_decision):
     for run in cut(rules_of(width, care, value, decision)):
         entries, run_dropped, run_merges = weave_run(run)
         kept, dropped, merges = kept + entries, dropped + run_dropped, merges + run_merges
-    rest = [0] * (count - len(kept))
-    put_words(out_care, 0, [care_word(text) for text, _ in kept] + rest)
-    put_words(out_value, 0, [value_word(text) for text, _ in kept] + rest)
-    out_decision[:count] = [decision for _, decision in kept] + rest
+    put_kept(kept, count, out_care, out_value, out_decision)
     return len(kept), dropped, merges
 
 
@@ -715,6 +727,97 @@ def compare_outcomes(width, old, old_default, new, new_default, start, first, la
 def compare(width, old, new, start, *results):
     """The same where neither side has a default: the outcomes are the lists' answers."""
     return compare_outcomes(width, old, None, new, None, start, *results)
+
+
+# Pruning. ---------------------------------------------------------------------------------------------------------------
+
+
+def lowest_by_headers(width, rules, k):
+    """The lowest header whose answer changes when the rule at position k (from 0) is taken from the list, or None: every header is looked
+    up, with the rule and without it."""
+    left = rules[:k] + rules[k + 1 :]
+    for h in range(2**width):
+        header = bits(width, h)
+        if answer(rules, header) != answer(left, header):
+            return h
+    return None
+
+
+def parted(block, text):
+    """A block is a pattern, for all headers that match it. What is left of it without those that match the text, as blocks of which no
+    two have a header in common; and the block of those that match both, where there are any."""
+    outside = []
+    for place, (x, y) in enumerate(zip(block, text)):
+        if x == "*" and y != "*":
+            before, behind = block[:place], block[place + 1 :]
+            outside.append(before + {"0": "1", "1": "0"}[y] + behind)
+            block = before + y + behind
+    return outside, block
+
+
+def lowest_by_blocks(rules, k):
+    """The same without a walk over the headers. When the rule goes, a header that matches it gets the answer of the other rules. That is
+    the answer that it had where it hits an earlier rule or a later one with the same decision, and a new one where it hits any other rule
+    or none. So the other rules are patterns, each with whether the answer is new for what hits it.
+
+    The rule's headers are taken apart into blocks, the one with the lowest header first. What matches one of the patterns at the top that
+    bring nothing new is out; their order does not matter, and the one that leaves fewest parts is taken. A block whose first pattern
+    brings a new answer falls into what matches that pattern and the rest. Where no pattern is left, every header of the block has a new
+    answer, and all headers of the other blocks that may have one are higher than its lowest."""
+    text, decision = rules[k]
+    others = [(other, False) for other, _ in rules[:k]] + [(other, d != decision) for other, d in rules[k + 1 :]]
+    blocks = [(first_number(text), text, others)]
+    while blocks:
+        lowest, block, others = heapq.heappop(blocks)
+        others = [other for other in others if meets_text(other[0], block)]
+        if not others:
+            return lowest
+        old = list(itertools.takewhile(lambda other: not other[1], others))
+        if any(covers_text(other, block) for other, _ in old):
+            continue
+        taken = min(old, key=lambda other: len(parted(block, other[0])[0])) if old else others[0]
+        outside, inside = parted(block, taken[0])
+        left = [(part, [other for other in others if other is not taken]) for part in outside]
+        for part, patterns in left if old else left + [(inside, [])]:
+            heapq.heappush(blocks, (first_number(part), part, patterns))
+    return None
+
+
+def lowest_changed(width, rules, k):
+    """The lowest header whose answer changes when the rule at position k (from 0) is taken from the list; None where no answer does."""
+    return lowest_by_headers(width, rules, k) if width <= BY_HEADERS else lowest_by_blocks(rules, k)
+
+
+def pruned(width, rules):
+    """From the last rule to the first: a rule goes where no header's answer changes with it, in the list as it then stands."""
+    left = list(rules)
+    for k in reversed(range(len(rules))):
+        if lowest_changed(width, left, k) is None:
+            del left[k]
+    return left
+
+
+def needed_at(width, care, value, decision, position):
+    """The lowest header whose answer changes without the rule at that position (from 0), or None; there is none where the list has no
+    such position."""
+    check_list(width, care, value, decision)
+    return lowest_changed(width, rules_of(width, care, value, decision), position) if position < len(decision) else None
+
+
+def prune(width, care, value, decision, out_care, out_value, out_decision, header):
+    """Rules kept and rules dropped; the kept ones are put into the results, and beside each the lowest header whose answer changes when
+    that one is taken from the list that is left. 0 stands in all results up to the number of rules. 2 where the four results do not
+    belong together, which have two numbers to a header, and 7 for too few places come last."""
+    check_list(width, care, value, decision)
+    if not belong_together(out_care, out_value, out_decision) or len(header) != 2 * len(out_decision):
+        raise Refused(2)
+    count = len(decision)
+    if len(out_decision) < count:
+        raise Refused(7)
+    kept = pruned(width, rules_of(width, care, value, decision))
+    put_kept(kept, count, out_care, out_value, out_decision)
+    put_words(header, 0, [lowest_changed(width, kept, k) for k in range(len(kept))] + [0] * (count - len(kept)))
+    return len(kept), count - len(kept)
 
 
 # Images. ----------------------------------------------------------------------------------------------------------------
@@ -891,16 +994,32 @@ def tally(image, id):
     return woven_list(image, find(image, id))[1]
 
 
-def weave_image(image, out):
-    """The length of the image with every list woven; out is a list of bytes, of which only that image's are changed."""
-    check_image(image)
-    lists = [woven_list(image, entry)[0] for entry in entries(image)]
+def put_image(image, lists, out):
+    """The length of the image with these lists in the place of its own; out is a list of bytes, of which only that image's are changed."""
     ids = [id for _, _, id in entries(image)]
-    woven = image_bytes(image[0], image[1], [len(rules) for rules in lists], ids, sum(lists, []))
-    if len(out) < len(woven):
+    made = image_bytes(image[0], image[1], [len(rules) for rules in lists], ids, sum(lists, []))
+    if len(out) < len(made):
         raise Refused(7)
-    out[: len(woven)] = woven
-    return len(woven)
+    out[: len(made)] = made
+    return len(made)
+
+
+def weave_image(image, out):
+    """The length of the image with every list woven."""
+    check_image(image)
+    return put_image(image, [woven_list(image, entry)[0] for entry in entries(image)], out)
+
+
+def pruned_list(image, entry):
+    """The rules that pruning leaves of the list of a contents entry."""
+    kept = pruned(image[1], rules_of(image[1], *slices_of(body_rules(image, entry))))
+    return [(care_word(text), value_word(text), decision) for text, decision in kept]
+
+
+def prune_image(image, out):
+    """The length of the image with every list pruned."""
+    check_image(image)
+    return put_image(image, [pruned_list(image, entry) for entry in entries(image)], out)
 
 
 # Two images. ------------------------------------------------------------------------------------------------------------

@@ -30,7 +30,7 @@ pub fn answered(s: &[u8], w: &[u8], to: usize) -> usize {
         names::PUT_RULE => rules_calls::put_rule(s, end, w, to),
         names::CHECK_RULE..=names::RULE_CROSSES => rules_calls::on_rules(call, s, end, w, to),
         names::APPLY_RULE..=names::COMPOSE => swaps_calls::on_swap(call, s, end, w, to),
-        names::CHECK..=names::WEAVE_IMAGE => image_calls::on_image(call, s, end, w, to),
+        names::CHECK..=names::PRUNE_IMAGE => image_calls::on_image(call, s, end, w, to),
         names::COMPARE_LISTS..=names::COMPARE_FIRST_OUTCOMES => {
             compare_calls::on_images(call, s, end, w, to)
         }
@@ -111,6 +111,7 @@ fn with_list(
         ),
         names::RUNS => weaving_calls::cut(s, at, h.width, care, value, decision, w, to),
         names::WEAVE => weaving_calls::weave(s, at, h.width, care, value, decision, w, to),
+        names::PRUNE => weaving_calls::prune(s, at, h.width, care, value, decision, w, to),
         names::WRITE => {
             image_calls::write(s, at, h.format, h.width, care, value, decision, w, to)
         }

@@ -53,7 +53,7 @@ fn with_image(call: usize, image: &[u8], s: &[u8], from: usize, w: &[u8], to: us
         names::BODY_REFUSAL => show::verdict(w, at, image::body_refusal(image, id)),
         names::TALLY => weaving_calls::show_woven(w, at, image_weaving::tally(image, id)),
         names::READ => read(image, id, s, n.at, w, to),
-        _ => weave(image, s, n.at, w, to),
+        _ => squeeze(call, image, s, n.at, w, to),
     }
 }
 
@@ -119,11 +119,18 @@ pub fn write(
     show_image(w, answer_at(s, b.at, to), o, slices::bytes(&image, b.count))
 }
 
-// `into`: the bytes that take the image with every list woven.
-fn weave(image: &[u8], s: &[u8], from: usize, w: &[u8], to: usize) -> usize {
+fn squeezed(call: usize, image: &[u8], out: &mut [u8]) -> NumberAnswer {
+    match call {
+        names::WEAVE_IMAGE => image_weaving::weave_image(image, out),
+        _ => image_weaving::prune_image(image, out),
+    }
+}
+
+// `into`: the bytes that take the image with every list woven, or pruned.
+fn squeeze(call: usize, image: &[u8], s: &[u8], from: usize, w: &[u8], to: usize) -> usize {
     let b = given::read_bytes(s, from, names::INTO);
     let mut out = b.bytes;
-    let o = image_weaving::weave_image(image, slices::bytes_mut(&mut out, b.count));
+    let o = squeezed(call, image, slices::bytes_mut(&mut out, b.count));
     show_image(w, answer_at(s, b.at, to), o, slices::bytes(&out, b.count))
 }
 

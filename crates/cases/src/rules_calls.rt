@@ -1,4 +1,5 @@
-// The calls on lists of rules and on rules: the crates `rules` and `pairs`, and the lookup of a swapped header beside the other two.
+// The calls on lists of rules and on rules: the crates `rules` and `pairs`; the lookup of a swapped header beside the other two, and what
+// a rule is needed for, of the crate `compare`.
 use crate::given;
 use crate::names;
 use crate::show;
@@ -13,7 +14,7 @@ use rules::Looked;
 use rules::Wire;
 use words::Word;
 
-// The calls that have a list, and most of them a number after it: `as` or `place`, which is counted from 0.
+// The calls that have a list, and most of them a number after it: `as`, or `place` or `position`, which are counted from 0.
 pub fn on_list(
     call: usize,
     s: &[u8],
@@ -28,6 +29,7 @@ pub fn on_list(
     let n = match call {
         names::CHECK_LIST_AS => named(s, from, names::AS, 18446744073709551615),
         names::RULE_AT => named(s, from, names::PLACE, 18446744073709551615),
+        names::NEEDED_AT => named(s, from, names::POSITION, 18446744073709551615),
         _ => Taken { value: 0, at: from },
     };
     let at = answer_at(s, n.at, to);
@@ -40,6 +42,11 @@ pub fn on_list(
             w,
             at,
             rules::check_list_as(number, width, care, value, decision),
+        ),
+        names::NEEDED_AT => show::needed(
+            w,
+            at,
+            compare::needed_at(width, care, value, decision, number),
         ),
         _ => show::rule(w, at, 0, rules::rule_at(care, value, decision, number)),
     }

@@ -11,6 +11,7 @@ use crate::source::part;
 use crate::source::phrase_of;
 use compare::Compared;
 use compare::Ending;
+use compare::Needed;
 use pairs::Holds;
 use pairs::Measured;
 use rules::Hit;
@@ -84,6 +85,12 @@ pub const HALF: usize = 29;
 
 pub const RULE: usize = 30;
 
+pub const NEEDED: usize = 31;
+
+pub const NOWHERE: usize = 32;
+
+pub const HEADERS: usize = 33;
+
 // The position at which answers are written.
 pub const ALOUD: usize = 4398046511104;
 
@@ -107,7 +114,7 @@ fn say(w: &[u8], at: usize, said: &[u8]) -> usize {
 
 pub fn phrase(w: &[u8], at: usize, k: usize) -> usize {
     let all: &[u8] =
-        b"fine|none|yes|no|refused | at | |, |[|]|/| finished| more from |kept | dropped | merged | into |list | swap |care | value | decision |first | last | old | new |id | rules | times |half | rule ";
+        b"fine|none|yes|no|refused | at | |, |[|]|/| finished| more from |kept | dropped | merged | into |list | swap |care | value | decision |first | last | old | new |id | rules | times |half | rule |at |nowhere| headers ";
     say(w, at, phrase_of(all, k))
 }
 
@@ -190,6 +197,15 @@ pub fn compared(w: &[u8], at: usize, c: Compared) -> usize {
         Ending::Finished => phrase(w, count, FINISHED),
         Ending::More(h) => wide_number(w, phrase(w, count, MORE_FROM), h.0),
         Ending::Refused(x) => refusal(w, phrase(w, count, SPACE), x),
+    }
+}
+
+// The header that a rule is needed at.
+pub fn needed(w: &[u8], at: usize, n: Needed) -> usize {
+    match n {
+        Needed::At(h) => wide_number(w, phrase(w, at, NEEDED), h.0),
+        Needed::Nowhere => phrase(w, at, NOWHERE),
+        Needed::Refused(x) => refusal(w, at, x),
     }
 }
 
@@ -288,7 +304,7 @@ fn left_over(w: &[u8], at: usize, s: &[u64]) -> usize {
 }
 
 // The words of a slice, after a phrase.
-fn slice(w: &[u8], at: usize, k: usize, s: &[u64]) -> usize {
+pub fn slice(w: &[u8], at: usize, k: usize, s: &[u64]) -> usize {
     let none = [0u16; 0];
     items(w, phrase(w, at, k), WORDS, 0, s.len() / 2, s, s, &none)
 }
