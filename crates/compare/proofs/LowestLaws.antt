@@ -1,13 +1,13 @@
 -- Laws of the search for the lowest difference of a cube, place by place from the left.
-use Prim.Native.Nat.{ℕ, suc, _+_, _-_, _*_, _/_, _%_, _^_, _≤_, _<_, min}
-use mathlib.Core.Path.{_≡_, refl, sym, ap, ap₂, _∙_, subst}
+use Prim.Native.Nat.{ℕ, _+_, _-_, _*_, _/_, _^_, _≤_, _<_, min}
+use mathlib.Core.Path.{_≡_, sym, ap, ap₂, _∙_, subst}
 use mathlib.Core.Logic.{⊎-elim}
 use mathlib.Core.Bool.{true, false}
 use native.Mathlib.Omega.{arith}
 use native.Mathlib.Nat.{add-mul, div-eq-of-lt, div-one, le-of-lt}
 use native.Mathlib.Decide.{ℕ-discrete, decLt}
 use lib.Bits.{bitAnd, bitOr, and-self, and-le-l, or-comm}
-use lib.Pow.{pow-pos, split, shr-shr, shr-mono, shr-le}
+use lib.Pow.{pow-pos, split, shr-shr, shr-mono}
 use lib.Dec.{eqb}
 use Rattle.words.specs.Words.{bit, without}
 use Rattle.words.specs.Halves.{num, limit}

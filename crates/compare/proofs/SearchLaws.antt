@@ -1,8 +1,8 @@
 -- Laws of the search for the lowest header at which a list needs a rule: the cube that it starts from, and what it comes to.
-use Prim.Native.Nat.{ℕ, _-_, _*_, _/_, _^_, _≤_, _<_}
+use Prim.Native.Nat.{ℕ, _-_, _*_, _^_, _≤_, _<_}
 use mathlib.Core.Path.{_≡_, refl, sym, ap, _∙_, subst}
 use mathlib.Core.List.{List, [], _∷_}
-use mathlib.Core.Bool.{Bool, true, false}
+use mathlib.Core.Bool.{true}
 use native.Mathlib.Omega.{arith}
 use native.Mathlib.Nat.{div-eq-of-lt}
 use lib.ListN.{length, getD}
@@ -18,12 +18,12 @@ use Rattle.words.proofs.BitLaws.{and-sub}
 use Rattle.words.proofs.WordLaws.{limit-pow, halves-num}
 use Rattle.words.proofs.SliceLaws.{words-length}
 use Rattle.rules.specs.Rule.{Rule}
-use Rattle.rules.specs.Rules.{Valid, matches, first, answer, noMatch}
+use Rattle.rules.specs.Rules.{Valid, matches, answer, noMatch}
 use Rattle.rules.specs.Lists.{except}
 use Rattle.rules.specs.Slices.{rulesOf, ruleAt, blank}
 use Rattle.rules.specs.Checks.{Sound}
 use Rattle.rules.specs.Calls.{checkList}
-use Rattle.rules.specs.Replies.{Reply, Gives, verdictReply}
+use Rattle.rules.specs.Replies.{Gives, verdictReply}
 use Rattle.rules.specs.declared.Refusal.{Refusal}
 use Rattle.rules.specs.declared.Verdict.{Verdict}
 use Rattle.rules.proofs.EntryLaws.{all-place}
@@ -35,7 +35,7 @@ use Rattle.compare.specs.declared.engine.Found.the-variants.{At, Nothing
 use Rattle.compare.specs.EngineSets.{answerOf, Narrowed}
 use Rattle.compare.specs.EngineCubes.{Alike, Decided}
 use Rattle.compare.specs.Search.{Lowered, AllBut, foundList}
-use Rattle.compare.specs.Needed.{lowestChange, DoesNothing, LowestChange, neededReply, neededAt}
+use Rattle.compare.specs.Needed.{lowestChange, neededReply, neededAt}
 use Rattle.compare.specs.declared.Needed.{Needed}
 use Rattle.compare.proofs.EngineBits.{and-or}
 use Rattle.compare.proofs.EngineBlocks.{base, below-next, upper}

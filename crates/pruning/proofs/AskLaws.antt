@@ -1,7 +1,7 @@
 -- Laws of the list of the first so many rules of three slices, and of what the engine answers about it.
-use Prim.Native.Nat.{ℕ, _*_, _^_, _≤_, _<_}
+use Prim.Native.Nat.{ℕ, _*_, _≤_}
 use mathlib.Core.Path.{_≡_, refl, sym, ap, _∙_, subst}
-use mathlib.Core.List.{List, [], _∷_}
+use mathlib.Core.List.{List}
 use mathlib.Core.Bool.{true, false}
 use native.Mathlib.Omega.{arith}
 use lib.ListN.{length, take, getD}
@@ -12,7 +12,7 @@ use Rattle.rules.specs.Rule.{Rule}
 use Rattle.rules.specs.Rules.{Valid}
 use Rattle.rules.specs.Lists.{All}
 use Rattle.rules.specs.Slices.{rulesOf}
-use Rattle.rules.specs.Replies.{Reply, Gives}
+use Rattle.rules.specs.Replies.{Gives}
 use Rattle.rules.specs.Checks.{Sound}
 use Rattle.rules.specs.declared.Refusal.{Refusal}
 use Rattle.rules.specs.declared.Wire.{Wire}

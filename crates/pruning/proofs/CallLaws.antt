@@ -1,6 +1,6 @@
 -- Laws of the call: its checks in their order, and what it leaves.
 use Prim.Native.Nat.{ℕ, _+_, _-_, _*_, _≤_, _<_}
-use mathlib.Core.Path.{_≡_, refl, sym, ap, ap₂, _∙_, subst}
+use mathlib.Core.Path.{_≡_, sym, ap, ap₂, _∙_, subst}
 use mathlib.Core.List.{List, [], _∷_, _++_}
 use native.Mathlib.Omega.{arith}
 use lib.ListN.{length, drop, take, length-append}
@@ -13,7 +13,7 @@ use Rattle.rules.specs.Rule.{Rule}
 use Rattle.rules.specs.Rules.{Valid}
 use Rattle.rules.specs.Lists.{All}
 use Rattle.rules.specs.Slices.{rulesOf, blanks, Lent}
-use Rattle.rules.specs.Replies.{Reply, Gives, Refuses, passed, _then_, refusalReply, verdictReply}
+use Rattle.rules.specs.Replies.{Gives, Refuses, passed, _then_, refusalReply, verdictReply}
 use Rattle.rules.specs.Checks.{lengthsCheck, roomCheck, Sound}
 use Rattle.rules.specs.Calls.{checkList}
 use Rattle.rules.specs.declared.Refusal.{Refusal}

@@ -1,7 +1,7 @@
 -- Laws of the pass in place: one rule kept or taken out, and one step after another.
-use Prim.Native.Nat.{ℕ, suc, _+_, _-_, _≤_, _<_}
-use mathlib.Core.Path.{_≡_, refl, sym, ap, _∙_, subst}
-use mathlib.Core.List.{List, [], _∷_, _++_, append-assoc}
+use Prim.Native.Nat.{ℕ, _+_, _-_, _≤_, _<_}
+use mathlib.Core.Path.{_≡_, sym, ap, _∙_, subst}
+use mathlib.Core.List.{List, _∷_, _++_, append-assoc}
 use mathlib.Core.Bool.{Bool, true, false}
 use native.Mathlib.Omega.{arith}
 use native.Mathlib.Numerals.{add-one}
@@ -10,7 +10,7 @@ use lib.Seq.{drop-at, length-take-le}
 use Rattle.rules.specs.Rule.{Rule}
 use Rattle.rules.specs.Rules.{Valid}
 use Rattle.rules.specs.Lists.{All, except}
-use Rattle.rules.specs.Slices.{rulesOf, blank, blanks, Lent}
+use Rattle.rules.specs.Slices.{rulesOf, blank, blanks}
 use Rattle.removal.specs.Removal.{takenOut, Removed}
 use Rattle.rules.proofs.SliceLaws.{rules-length, kept-lent}
 use Rattle.removal.proofs.RemoveLaws.{except-length, except-all, taken-out-front, removed-rules, removed-kept}

@@ -4,7 +4,7 @@ use mathlib.Core.Path.{_≡_, refl, sym, ap, ap₂, _∙_, subst}
 use mathlib.Core.List.{List, [], _∷_, _++_, append-assoc}
 use native.Mathlib.Omega.{arith}
 use native.Mathlib.Numerals.{add-one}
-use lib.ListN.{length, getD, take, drop, set, replicate, take-append-drop, length-append, length-drop}
+use lib.ListN.{length, take, drop, set, replicate, take-append-drop, length-append, length-drop}
 use lib.Seq.{set-split, take-at, drop-append-add, take-suc, take-all, drop-drop}
 use Rattle.words.specs.declared.Word.{Word}
 use Rattle.words.specs.Halves.{num}

@@ -5,14 +5,12 @@ use mathlib.Core.List.{List, [], _∷_, _++_, Sublistᴰ·refl, Sublistᴰ·tran
 use mathlib.Core.Bool.{Bool, true, false}
 use Prim.Native.Nat.{ℕ, zero, suc, _+_, _^_, _≤_, _<_}
 use native.Mathlib.Omega.{arith}
-use native.Mathlib.Decide.{decLt}
 use lib.Dec.{eqb}
-use lib.Bits.{and-le-r}
 use lib.ListN.{length, getD}
 use borrow.Author.Tests.{eqb-true, eqb-false}
 use Rattle.words.proofs.Tests.{split, true-false}
 use Rattle.rules.specs.Rule.{Rule}
-use Rattle.rules.specs.Rules.{first, answer, noMatch, Valid}
+use Rattle.rules.specs.Rules.{answer, noMatch, Valid}
 use Rattle.rules.specs.Slices.{rulesOf, Lent}
 use Rattle.rules.specs.Lists.{All, except}
 use Rattle.rules.specs.Found.{Hits}

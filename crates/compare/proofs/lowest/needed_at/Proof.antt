@@ -1,4 +1,3 @@
-use mathlib.Core.Path.{sym, _∙_}
 use native.Mathlib.Omega.{arith}
 use Rattle.compare.proofs.SearchLaws.{needed-refused, needed-past, needed-sound, needed-found, needed-none}
 use borrow.Author.Needs.{needs}

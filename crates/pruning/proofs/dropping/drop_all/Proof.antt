@@ -3,7 +3,6 @@ use Prim.Native.Nat.{_≤_}
 use mathlib.Core.Path.{refl}
 use native.Mathlib.Omega.{arith}
 use borrow.Author.Needs.{needs}
-use lib.ListN.{length}
 use Rattle.rules.specs.Slices.{rulesOf}
 use Rattle.pruning.specs.Inner.{Passing}
 use Rattle.pruning.proofs.PassLaws.{pass-start, pass-more, pass-end}
