@@ -6,7 +6,7 @@ use lib.Dec.{eqb, leb}
 use Rattle.command_line.specs.declared.Command.{Command}
 use Rattle.command_line.specs.declared.Wanted.{Wanted}
 
--- The names, byte by byte: check, show, lookup, runs, weave, compare, prefixes, and defaults.
+-- The names, byte by byte: check, show, lookup, runs, weave, prune, compare, prefixes, and defaults.
 abbrev pub checkName : List ℕ
 checkName = 99 ∷ 104 ∷ 101 ∷ 99 ∷ 107 ∷ []
 
@@ -21,6 +21,9 @@ runsName = 114 ∷ 117 ∷ 110 ∷ 115 ∷ []
 
 abbrev pub weaveName : List ℕ
 weaveName = 119 ∷ 101 ∷ 97 ∷ 118 ∷ 101 ∷ []
+
+abbrev pub pruneName : List ℕ
+pruneName = 112 ∷ 114 ∷ 117 ∷ 110 ∷ 101 ∷ []
 
 abbrev pub compareName : List ℕ
 compareName = 99 ∷ 111 ∷ 109 ∷ 112 ∷ 97 ∷ 114 ∷ 101 ∷ []
@@ -54,9 +57,10 @@ fileCommandOf word words =
     (commandIf (asks word words lookupName 5) Command.Lookup
     (commandIf (asks word words runsName 4) Command.Runs
     (commandIf (asks word words weaveName 4) Command.Weave
+    (commandIf (asks word words pruneName 4) Command.Prune
     (commandIf (asks word words compareName 4) Command.Compare
     (commandIf (asks word words compareName 5) Command.CompareId
-    (commandIf (asks word words compareName 6) Command.CompareFrom Command.Usage)))))))
+    (commandIf (asks word words compareName 6) Command.CompareFrom Command.Usage))))))))
 
 -- The same with the command that takes no file.
 unfoldable pub commandOf : (word : List ℕ) (words : ℕ) → Command

@@ -9,6 +9,7 @@ pub enum Command {
     Lookup,
     Runs,
     Weave,
+    Prune,
     Compare,
     CompareId,
     CompareFrom,
@@ -53,6 +54,9 @@ fn file_command_of(word: &[u8], words: usize) -> Command
     }
     if is(word, words, b"weave", 4) {
         return Command::Weave;
+    }
+    if is(word, words, b"prune", 4) {
+        return Command::Prune;
     }
     if is(word, words, b"compare", 4) {
         return Command::Compare;

@@ -23,7 +23,7 @@ fn on_image(at: usize, image: &[u8], request: Request) {
     match command {
         Command::Check | Command::Show => lists::tell(image, request),
         Command::Lookup | Command::Runs => questions::ask_by_id(image, request),
-        Command::Weave => squeezing::weave(at, image, request),
+        Command::Weave | Command::Prune => squeezing::squeeze(at, image, request),
         _ => comparing::on_new_file(at, image, request),
     }
 }

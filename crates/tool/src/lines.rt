@@ -31,6 +31,20 @@ pub(crate) fn pattern(width: u32, rule: Rule) {
     say(slices::bytes(&space, count));
 }
 
+// A rule: its pattern and its decision.
+pub(crate) fn rule(width: u32, rule: Rule) {
+    pattern(width, rule);
+    byte(b' ');
+    number(rule.decision as usize);
+}
+
+// The header that a rule is needed at, to the end of the line.
+pub(crate) fn needed(header: Word) {
+    say(b" needed at ");
+    word(header);
+    byte(b'\n');
+}
+
 // A number, to the end of the line.
 pub(crate) fn last(n: usize) {
     number(n);
@@ -94,6 +108,6 @@ pub(crate) fn trouble(what: &[u8], word: &[u8]) {
 
 pub(crate) fn usage() {
     say(
-        b"usage:\n  ./myrhjord check FILE\n  ./myrhjord show FILE\n  ./myrhjord lookup FILE ID HEADER\n  ./myrhjord runs FILE ID\n  ./myrhjord weave FILE OUT\n  ./myrhjord compare OLD NEW [ID [START]] [defaults A B]\n  ./myrhjord prefixes BITS LOW HIGH\nNumbers are decimal, or hexadecimal after 0x.\nA and B are what the old and the new list decide where no rule matches: a number, or none.\n",
+        b"usage:\n  ./myrhjord check FILE\n  ./myrhjord show FILE\n  ./myrhjord lookup FILE ID HEADER\n  ./myrhjord runs FILE ID\n  ./myrhjord weave FILE OUT\n  ./myrhjord prune FILE OUT\n  ./myrhjord compare OLD NEW [ID [START]] [defaults A B]\n  ./myrhjord prefixes BITS LOW HIGH\nNumbers are decimal, or hexadecimal after 0x.\nA and B are what the old and the new list decide where no rule matches: a number, or none.\n",
     );
 }

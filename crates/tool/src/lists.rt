@@ -60,19 +60,20 @@ pub(crate) fn each(image: &[u8], request: Request) {
     }
 }
 
-// How many rules a list has, what weaving makes of it, or its rules.
+// How many rules a list has, what weaving or pruning makes of it, or its rules.
 fn say_entry(image: &[u8], k: usize, request: Request) {
     let e = image::entry(image, k);
     if let Listed::List { id, rules } = e {
         let command = request.command;
+        lines::list(id);
         match command {
-            Command::Check => {
-                lines::list(id);
-                lines::named(b" rules ", rules);
-            }
+            Command::Check => lines::named(b" rules ", rules),
             Command::Weave => squeezing::report(image, id, rules),
+            Command::Prune => {
+                squeezing::begin(rules);
+                questions::ask(image, id, request);
+            }
             _ => {
-                lines::list(id);
                 lines::byte(b'\n');
                 questions::ask(image, id, request);
             }

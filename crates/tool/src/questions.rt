@@ -1,14 +1,14 @@
-// Questions about one list of an image: its rules, what it answers to a header, and its runs.
+// Questions about one list of an image: its rules, what it answers to a header, its runs, and what pruning makes of it.
 use crate::commands::Request;
 use crate::lines;
 use crate::lists;
 use crate::slices;
+use crate::squeezing;
 use command_line::Command;
 use image::NumberAnswer;
 use rules::Hit;
 use rules::Looked;
 use rules::Refusal;
-use rules::Rule;
 use rules::Verdict;
 use swaps::Swap;
 use weaving::Counted;
@@ -44,6 +44,7 @@ fn answered(image: &[u8], care: &[u64], value: &[u64], decision: &[u16], request
     match command {
         Command::Lookup => answer(rules::lookup(width, care, value, decision, request.header)),
         Command::Runs => runs(width, care, value, decision),
+        Command::Prune => squeezing::prune(width, care, value, decision),
         _ => show_rules(width, care, value, decision),
     }
 }
@@ -51,15 +52,10 @@ fn answered(image: &[u8], care: &[u64], value: &[u64], decision: &[u16], request
 fn show_rules(width: u32, care: &[u64], value: &[u64], decision: &[u16]) {
     let mut i = 0;
     while i < decision.len() {
-        show_rule(width, rules::rule_at(care, value, decision, i));
+        lines::rule(width, rules::rule_at(care, value, decision, i));
+        lines::byte(b'\n');
         i += 1;
     }
-}
-
-fn show_rule(width: u32, rule: Rule) {
-    lines::pattern(width, rule);
-    lines::byte(b' ');
-    lines::last(rule.decision as usize);
 }
 
 fn answer(l: Looked) {

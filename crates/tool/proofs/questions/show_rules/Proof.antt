@@ -6,7 +6,8 @@ use Rattle.tool.proofs.questions.show_rules.Tie as tie
 use Rattle.tool.proofs.questions.show_rules.Reads as reads
 use Rattle.tool.proofs.questions.show_rules.Lts as lts
 use Rattle.rules.proofs.rule_at.Reads as rule-at-reads
-use Rattle.tool.proofs.questions.show_rule.Reads as show-rule-reads
+use Rattle.tool.proofs.lines.byte.Reads as byte-reads
+use Rattle.tool.proofs.lines.rule.Reads as rule-reads
 
 abbrev Inv-loop : tie.InvT-loop
 Inv-loop width care value decision i₀ i = i ≤ length decision
@@ -20,8 +21,11 @@ loop-holds c = search needs
 rule-at-requires : tie.Need-rule-at-requires Inv-loop μ-loop
 rule-at-requires c κs = search needs
 
-show-rule-requires : tie.Need-show-rule-requires Inv-loop μ-loop
-show-rule-requires c κs = search needs
+rule-requires : tie.Need-rule-requires Inv-loop μ-loop
+rule-requires c κs = search needs
+
+byte-requires : tie.Need-byte-requires Inv-loop μ-loop
+byte-requires c κs = search needs
 
 add-i : tie.Need-add-i Inv-loop μ-loop
 add-i c = search needs
@@ -43,7 +47,8 @@ show-rules-spec =
     μ-loop
     loop-holds
     rule-at-requires
-    show-rule-requires
+    rule-requires
+    byte-requires
     add-i
     loop-less
     loop-again
