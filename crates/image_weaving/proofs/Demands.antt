@@ -4,9 +4,8 @@
 use mathlib.Core.Path.{_≡_, refl, sym, ap, ap₂, _∙_, subst}
 use mathlib.Core.List.{List, [], _∷_}
 use mathlib.Core.Bool.{Bool, false, _||_}
-use Prim.Native.Nat.{ℕ, _+_, _*_, _^_, _≤_, _<_}
+use Prim.Native.Nat.{ℕ, _+_, _*_, _≤_}
 use native.Mathlib.Nat.{mul-le-mul-left}
-use native.Mathlib.Decide.{decLt}
 use native.Mathlib.Omega.{arith}
 use lib.Dec.{eqb}
 use lib.ListN.{length, take, drop}
@@ -22,7 +21,7 @@ use Rattle.rules.specs.Checks.{roomCheck}
 use Rattle.rules.specs.Calls.{checkList, lookedUp, decided}
 use Rattle.rules.proofs.ReplyLaws.{then-second, one-value, bare-first}
 use Rattle.rules.proofs.SliceLaws.{rules-columns}
-use Rattle.rules.proofs.AnswerLaws.{decide-alike, looked-past}
+use Rattle.rules.proofs.AnswerLaws.{decide-alike-within}
 use Rattle.weaving.specs.declared.Tally.{Tally}
 use Rattle.weaving.specs.declared.Woven.{Woven}
 use Rattle.weaving.specs.Runs.{join}
@@ -174,7 +173,11 @@ module _ (z : Squeeze) (bs out out′ : List ℕ) (n : ℕ) (W : ImageSqueezed z
     pub squeezed-image-lookup : (id h : ℕ)
         → decided (lookedUp (widthIn bs) (caresOf (listWith (take n out′) id)) (valuesOf (listWith (take n out′) id)) (decisionsOf (listWith (take n out′) id)) h)
         ≡ decided (lookedUp (widthIn bs) (caresOf (listWith bs id)) (valuesOf (listWith bs id)) (decisionsOf (listWith bs id)) h)
-    squeezed-image-lookup id h = go (decLt h (2 ^ widthIn bs))
+    squeezed-image-lookup id h =
+        decide-alike-within (widthIn bs) (caresOf xs) (valuesOf xs) (decisionsOf xs) (caresOf ys) (valuesOf ys) (decisionsOf ys) h new (columns-pass bs id squeezed-source-passes)
+        (λ l.
+        ap (λ (rs : List Rule). answer rs h) (rules-columns xs ∙ squeezed-image-list id)
+        ∙ squeezed-answers z (widthIn bs) ys (list-facts bs id squeezed-source-passes .valid) h l ∙ ap (λ (rs : List Rule). answer rs h) (sym (rules-columns ys)))
       where
         xs : List Rule
         xs = listWith (take n out′) id
@@ -185,17 +188,6 @@ module _ (z : Squeeze) (bs out out′ : List ℕ) (n : ℕ) (W : ImageSqueezed z
         new : checkList (widthIn bs) 1 (caresOf xs) (valuesOf xs) (decisionsOf xs) ≡ passed
         new =
             subst (λ (w : ℕ). checkList w 1 (caresOf xs) (valuesOf xs) (decisionsOf xs) ≡ passed) (squeezed-image-head .1) (columns-pass (take n out′) id squeezed-image-passes)
-
-        old : checkList (widthIn bs) 1 (caresOf ys) (valuesOf ys) (decisionsOf ys) ≡ passed
-        old = columns-pass bs id squeezed-source-passes
-
-        go : Dec (h < 2 ^ widthIn bs)
-            → decided (lookedUp (widthIn bs) (caresOf xs) (valuesOf xs) (decisionsOf xs) h) ≡ decided (lookedUp (widthIn bs) (caresOf ys) (valuesOf ys) (decisionsOf ys) h)
-        go (yes l) =
-            decide-alike (widthIn bs) (caresOf xs) (valuesOf xs) (decisionsOf xs) (caresOf ys) (valuesOf ys) (decisionsOf ys) h new old
-            (ap (λ (rs : List Rule). answer rs h) (rules-columns xs ∙ squeezed-image-list id)
-            ∙ squeezed-answers z (widthIn bs) ys (list-facts bs id squeezed-source-passes .valid) h l ∙ ap (λ (rs : List Rule). answer rs h) (sym (rules-columns ys)))
-        go (no m) = ap decided (looked-past (widthIn bs) _ _ _ h new (omega arith) ∙ sym (looked-past (widthIn bs) _ _ _ h old (omega arith)))
 
 -- ---- `tally` counted
 
