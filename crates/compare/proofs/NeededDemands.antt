@@ -16,11 +16,12 @@ use Rattle.compare.specs.declared.Needed.{Needed}
 use Rattle.compare.specs.Needed.{lowestChange, DoesNothing, LowestChange, neededReply, neededAt}
 use Rattle.compare.proofs.NeededLaws.{nothing-exactly, lowest-exactly, none-or-one}
 
-given-none : (l : List ℕ) → l ≡ [] → Gives (halvesOf l) ≡ Gives []
+-- no header and one header, as the values of a reply
+pub given-none : (l : List ℕ) → l ≡ [] → Gives (halvesOf l) ≡ Gives []
 unfolding halvesOf
 given-none l e = ap (λ (x : List ℕ). Gives (halvesOf x)) e
 
-given-one : (l : List ℕ) (h : ℕ) → l ≡ h ∷ [] → Gives (halvesOf l) ≡ Gives (halves h .low ∷ halves h .high ∷ [])
+pub given-one : (l : List ℕ) (h : ℕ) → l ≡ h ∷ [] → Gives (halvesOf l) ≡ Gives (halves h .low ∷ halves h .high ∷ [])
 unfolding halvesOf
 given-one l h e = ap (λ (x : List ℕ). Gives (halvesOf x)) e
 

@@ -11,7 +11,7 @@ use lib.Dec.{eqb}
 use lib.Pow.{pow-mono}
 use borrow.Author.Tests.{eqb-true}
 use Rattle.words.specs.declared.Word.{Word}
-use Rattle.words.specs.Halves.{num, halves, limit}
+use Rattle.words.specs.Halves.{num, limit}
 use Rattle.words.specs.Slices.{wordsOf, halvesOf}
 use Rattle.words.proofs.Tests.{split}
 use Rattle.words.proofs.BitLaws.{and-sub}
@@ -43,6 +43,7 @@ use Rattle.compare.proofs.EngineWhole.{all, sound-ready, whole}
 use Rattle.compare.proofs.SweepPlaces.{within-left}
 use Rattle.compare.proofs.LowestLaws.{lowered-start, lowered-end}
 use Rattle.compare.proofs.ButLaws.{whole-but}
+use Rattle.compare.proofs.NeededDemands.{given-one, given-none}
 use Rattle.compare.proofs.NeededLaws.{nothing-exactly, lowest-exactly, past-nothing, unmatched-same}
 
 module _ (w : ℕ) (cs vs ds : List ℕ) (i : ℕ) (S : Sound w cs vs ds) (inside : i < length ds) where
@@ -161,10 +162,6 @@ module _ (w : ℕ) (cs vs ds : List ℕ) (i : ℕ) (S : Sound w cs vs ds) (insid
 
 -- ---- the call
 
-one : (n : ℕ) → Gives (halves n .low ∷ halves n .high ∷ []) ≡ Gives (halvesOf (n ∷ []))
-unfolding halvesOf
-one n = refl
-
 module _ (w : ℕ) (cs vs ds : List ℕ) (k : ℕ) (v : Verdict) (checked : verdictReply v ≡ checkList w 1 cs vs ds) where
   -- the list's refusal
   pub needed-refused : (x : Refusal) → v ≡ Verdict.Refused x → neededReply (Needed.Refused x) ≡ neededAt w cs vs ds k
@@ -180,8 +177,7 @@ module _ (w : ℕ) (cs vs ds : List ℕ) (k : ℕ) (v : Verdict) (checked : verd
     needed-sound = list-sound w 1 cs vs ds (verdict-passed v _ checked fine)
 
     none-is : [] ≡ lowestChange w (rulesOf cs vs ds) k → Gives [] ≡ neededAt w cs vs ds k
-    unfolding halvesOf
-    none-is e = ap (λ (x : List ℕ). Gives (halvesOf x)) e ∙ sym given
+    none-is e = sym (given-none _ (sym e)) ∙ sym given
 
     -- no such position
     pub needed-past : length ds ≤ k → neededReply Needed.Nowhere ≡ neededAt w cs vs ds k
@@ -194,4 +190,4 @@ module _ (w : ℕ) (cs vs ds : List ℕ) (k : ℕ) (v : Verdict) (checked : verd
 
       pub needed-found : (h h′ : Word) → r ≡ At h → h′ ≡ h → h .low < 2 ^ 64 → Gives (h′ .low ∷ h′ .high ∷ []) ≡ neededAt w cs vs ds k
       needed-found h h′ e q l =
-          rw q (ap (λ (x : Word). Gives (x .low ∷ x .high ∷ [])) (sym (halves-num h l)) ∙ one (num h) ∙ ap (λ (x : List ℕ). Gives (halvesOf x)) (sym (ap foundList e) ∙ told) ∙ sym given)
+          rw q (ap (λ (x : Word). Gives (x .low ∷ x .high ∷ [])) (sym (halves-num h l)) ∙ sym (given-one (num h ∷ []) (num h) refl) ∙ ap (λ (x : List ℕ). Gives (halvesOf x)) (sym (ap foundList e) ∙ told) ∙ sym given)

@@ -1,5 +1,5 @@
 -- One list of an image, squeezed into slices that have room for it.
-use mathlib.Core.Path.{_≡_, sym, ap, _∙_}
+use mathlib.Core.Path.{_≡_, refl, sym, ap, _∙_}
 use mathlib.Core.List.{List, [], _∷_, _++_}
 use Prim.Native.Nat.{ℕ, _*_}
 use native.Mathlib.Omega.{arith}
@@ -10,8 +10,8 @@ use Rattle.rules.specs.declared.Refusal.{Refusal}
 use Rattle.rules.specs.Rule.{Rule}
 use Rattle.rules.specs.Slices.{rulesOf, careOf, valueOf, decisionOf, caresOf, valuesOf, decisionsOf, padded}
 use Rattle.rules.specs.Replies.{Reply, Gives, passed, refusalReply, unlessRefused}
-use Rattle.rules.proofs.ReplyLaws.{then-next, then-stop, need-yes, same-given, gives-refuses, two-values}
-use Rattle.rules.proofs.PaddedLaws.{padded-front}
+use Rattle.rules.proofs.ReplyLaws.{then-next, then-stop, need-yes, gives-refuses, two-values}
+use Rattle.rules.proofs.PaddedLaws.{cares-front, values-front, decisions-front}
 use Rattle.rules.proofs.CheckLaws.{list-sound, sound-list, lengths-yes, room-yes}
 use Rattle.weaving.specs.declared.Woven.{Woven}
 use Rattle.weaving.specs.Calls.{wovenReply, weaveReply, WeaveDone}
@@ -33,16 +33,13 @@ use Rattle.image_weaving.specs.Parts.{HoldsRules, squeezeCounts, Ready, 
 
 -- a call that is not refused, and left the columns of a list in three slices: their first places hold the list
 module _ (rs : List Rule) (a : Reply) (ns : List ℕ) (given : a ≡ Gives ns) where
-  front : (k n : ℕ) (xs old new : List ℕ) → new ≡ unlessRefused a (padded n xs old) old → length xs ≡ k → take k new ≡ xs
-  front k n xs old new e f = ap (take k) (e ∙ sym (same-given a ns (padded n xs old) old given)) ∙ padded-front k n xs old f
-
   left-holds : (m k n : ℕ) (oc ov od oc′ ov′ od′ : List ℕ) → oc′ ≡ unlessRefused a (padded m (caresOf rs) oc) oc
       → ov′ ≡ unlessRefused a (padded k (valuesOf rs) ov) ov → od′ ≡ unlessRefused a (padded n (decisionsOf rs) od) od → HoldsRules rs oc′ ov′ od′
   left-holds m k n oc ov od oc′ ov′ od′ c v d =
       record {
-        cares = front _ m _ oc oc′ c (length-words careOf rs);
-        values = front _ k _ ov ov′ v (length-words valueOf rs);
-        decisions = front _ n _ od od′ d (length-column decisionOf rs);
+        cares = cares-front a ns given rs (length rs) refl m k n oc ov od oc′ ov′ od′ c v d;
+        values = values-front a ns given rs (length rs) refl m k n oc ov od oc′ ov′ od′ c v d;
+        decisions = decisions-front a ns given rs (length rs) refl m k n oc ov od oc′ ov′ od′ c v d;
       }
 
 -- slices that go on hold it as well

@@ -2,24 +2,23 @@
 -- list's checks, how it answers, and beside each rule the lowest header that needs it; that a second call drops nothing more; and that a
 -- refused call leaves every slice as it was.
 use mathlib.Core.Path.{_≡_, refl, sym, ap, _∙_, subst}
-use mathlib.Core.List.{List, [], _∷_, map}
+use mathlib.Core.List.{List, [], _∷_}
 use Prim.Native.Nat.{ℕ, _+_, _*_, _≤_, _<_}
 use native.Mathlib.Omega.{arith}
-use lib.ListN.{length, take, getD, length-map}
+use lib.ListN.{length, take, getD}
 use lib.Seq.{getD-take}
 use Rattle.words.specs.Slices.{wordsOf, halvesOf}
 use Rattle.words.proofs.SliceLaws.{halves-length, words-halves, words-take}
 use Rattle.rules.specs.Rule.{Rule}
 use Rattle.rules.specs.declared.Refusal.{Refusal}
-use Rattle.rules.specs.Slices.{rulesOf, ruleAt, careOf, valueOf, decisionOf, caresOf, valuesOf, decisionsOf, Lent, padded}
+use Rattle.rules.specs.Slices.{rulesOf, ruleAt, Lent}
 use Rattle.rules.specs.Found.{Hits}
-use Rattle.rules.specs.Replies.{Reply, Gives, passed, unlessRefused}
+use Rattle.rules.specs.Replies.{Gives, passed}
 use Rattle.rules.specs.Checks.{Sound}
 use Rattle.rules.specs.Calls.{checkList, lookedUp, decided}
 use Rattle.rules.proofs.ReplyLaws.{then-second, two-values}
-use Rattle.rules.proofs.ZipLaws.{ap₃}
-use Rattle.rules.proofs.SliceLaws.{rules-length, rules-columns}
-use Rattle.rules.proofs.PaddedLaws.{padded-front}
+use Rattle.rules.proofs.SliceLaws.{rules-length}
+use Rattle.rules.proofs.PaddedLaws.{given-front, front-together, front-rules}
 use Rattle.rules.proofs.CheckLaws.{list-sound, list-first}
 use Rattle.rules.proofs.AnswerLaws.{hit-exactly}
 use Rattle.compare.specs.Needed.{LowestChange}
@@ -65,49 +64,18 @@ module _ (w : ℕ) (cs vs ds ocs ovs ods hs ocs′ ovs′ ods′ hs′ : List �
   counts =
       two-values (then-second (resultsCheck (length ds) ocs ovs ods hs) _ _ (then-second (checkList w 1 cs vs ds) _ _ said))
 
-  -- where the call is not refused, the kept places of a slice hold what it was filled with
-  front : (k n : ℕ) (xs old new : List ℕ) → new ≡ unlessRefused (pruneReply w cs vs ds ocs ovs ods hs) (padded n xs old) old → length xs ≡ k
-      → take k new ≡ xs
-  front k n xs old new e f =
-      ap (take k) (e ∙ ap (λ (r : Reply). unlessRefused r (padded n xs old) old) said) ∙ padded-front k n xs old f
-
-  -- a column of the pruned list has an entry for each kept rule, and two where it holds words
-  column-length : (f : Rule → ℕ) → length (map f pruned) ≡ t .kept
-  column-length f = length-map pruned f ∙ counts .0
-
-  words-long : (ns : List ℕ) → length ns ≡ t .kept → length (halvesOf ns) ≡ t .kept * 2
-  words-long ns e = halves-length ns ∙ ap (λ (n : ℕ). n * 2) e
-
-  cares-long : length (caresOf pruned) ≡ t .kept * 2
-  cares-long = words-long _ (column-length careOf)
-
-  values-long : length (valuesOf pruned) ≡ t .kept * 2
-  values-long = words-long _ (column-length valueOf)
-
-  -- each slice begins with its column
-  cares-front : keptWords t ocs′ ≡ caresOf pruned
-  cares-front = front _ _ _ _ _ (D .cares) cares-long
-
-  values-front : keptWords t ovs′ ≡ valuesOf pruned
-  values-front = front _ _ _ _ _ (D .values) values-long
-
-  decisions-front : keptDecisions t ods′ ≡ decisionsOf pruned
-  decisions-front = front _ _ _ _ _ (D .decisions) (column-length decisionOf)
-
   headers-front : keptWords t hs′ ≡ halvesOf (neededHeaders w pruned)
-  headers-front = front _ _ _ _ _ (D .headers) (words-long _ (headers-length w pruned (length pruned) 0 ∙ counts .0))
+  headers-front =
+      given-front _ _ said (t .kept * 2) _ _ hs hs′ (D .headers)
+      (halves-length (neededHeaders w pruned) ∙ ap (λ (n : ℕ). n * 2) (headers-length w pruned (length pruned) 0 ∙ counts .0))
 
   -- the kept places of the three slices of rules belong together
   kept-together : Lent (keptWords t ocs′) (keptWords t ovs′) (keptDecisions t ods′)
-  kept-together =
-      let c = ap length cares-front ∙ cares-long in
-      let v = ap length values-front ∙ values-long in
-      let d = ap length decisions-front ∙ column-length decisionOf in
-      record { values = v ∙ sym c; decisions = ap (λ (n : ℕ). n * 2) d ∙ sym c }
+  kept-together = front-together _ _ said pruned (t .kept) (counts .0) _ _ _ ocs ovs ods ocs′ ovs′ ods′ (D .cares) (D .values) (D .decisions)
 
   -- The first places of the result slices, as many as the call says it kept, hold the pruned list, rule for rule.
   pub pruned-places : rulesOf (keptWords t ocs′) (keptWords t ovs′) (keptDecisions t ods′) ≡ prune w (rulesOf cs vs ds)
-  pruned-places = ap₃ rulesOf cares-front values-front decisions-front ∙ rules-columns pruned
+  pruned-places = front-rules _ _ said pruned (t .kept) (counts .0) _ _ _ ocs ovs ods ocs′ ovs′ ods′ (D .cares) (D .values) (D .decisions)
 
   -- The two counts of the answer add up to the number of rules lent.
   pub pruned-counts : t .kept + t .dropped ≡ length ds

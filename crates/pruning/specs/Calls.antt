@@ -17,7 +17,7 @@ abbrev pub prunedReply : Pruned → Reply
 prunedReply (Pruned.Done t) = Gives (t .kept ∷ t .dropped ∷ [])
 prunedReply (Pruned.Refused x) = refusalReply x
 
--- Refusal 2: a slice of headers has two numbers to each place of the decisions.
+-- Refusal 2: the slice of headers has not two numbers to each place of the decisions.
 unfoldable pub headersCheck : (headers decisions : List ℕ) → Reply
 headersCheck hs ds = need (eqb (length hs) (length ds * 2)) 2 0 0
 

@@ -1,23 +1,20 @@
 -- What the call `weave` owes its user (demand 2), read off its own promise: the list that it leaves, how long that is, that it
 -- passes a list's checks and how it answers; and that a refused call leaves every slice as it was.
 use mathlib.Core.Path.{_≡_, sym, ap, _∙_}
-use mathlib.Core.List.{List, [], _∷_, map}
+use mathlib.Core.List.{List, [], _∷_}
 use Prim.Native.Nat.{ℕ, _+_, _*_, _≤_}
 use native.Mathlib.Omega.{arith}
-use lib.ListN.{length, take, length-map}
-use Rattle.words.specs.Slices.{halvesOf}
-use Rattle.words.proofs.SliceLaws.{halves-length}
+use lib.ListN.{length, take}
 use Rattle.rules.specs.Rule.{Rule}
 use Rattle.rules.specs.Rules.{answer}
 use Rattle.rules.specs.declared.Refusal.{Refusal}
-use Rattle.rules.specs.Slices.{rulesOf, careOf, valueOf, decisionOf, caresOf, valuesOf, decisionsOf, Lent, padded}
-use Rattle.rules.specs.Replies.{Reply, Gives, passed, unlessRefused}
+use Rattle.rules.specs.Slices.{rulesOf, Lent}
+use Rattle.rules.specs.Replies.{Gives, passed}
 use Rattle.rules.specs.Checks.{lengthsCheck, roomCheck, Sound}
 use Rattle.rules.specs.Calls.{checkList, lookedUp, decided}
 use Rattle.rules.proofs.ReplyLaws.{then-second}
-use Rattle.rules.proofs.ZipLaws.{ap₃}
-use Rattle.rules.proofs.SliceLaws.{rules-length, rules-columns}
-use Rattle.rules.proofs.PaddedLaws.{padded-front}
+use Rattle.rules.proofs.SliceLaws.{rules-length}
+use Rattle.rules.proofs.PaddedLaws.{front-together, front-rules}
 use Rattle.rules.proofs.CheckLaws.{list-sound, list-first}
 use Rattle.rules.proofs.AnswerLaws.{decide-alike}
 use Rattle.weaving.specs.declared.Counted.{Counted}
@@ -75,40 +72,13 @@ module _ (w : ℕ) (cs vs ds ocs ovs ods ocs′ ovs′ ods′ : List ℕ) (t : T
   joins : merges w (rulesOf cs vs ds) ≡ t .merged
   joins = let e = counts in cc
 
-  -- where the call is not refused, the kept places of a slice hold what it was filled with
-  front : (k n : ℕ) (xs old new : List ℕ) → new ≡ unlessRefused (weaveReply w cs vs ds ocs ovs ods) (padded n xs old) old → length xs ≡ k
-      → take k new ≡ xs
-  front k n xs old new e f =
-      ap (take k) (e ∙ ap (λ (r : Reply). unlessRefused r (padded n xs old) old) said) ∙ padded-front k n xs old f
-
-  -- a column of the woven list has an entry for each kept rule, and two where it holds words
-  column-length : (f : Rule → ℕ) → length (map f woven) ≡ t .kept
-  column-length f = length-map woven f ∙ keeps
-
-  words-long : (f : Rule → ℕ) → length (halvesOf (map f woven)) ≡ t .kept * 2
-  words-long f = halves-length (map f woven) ∙ ap (λ (n : ℕ). n * 2) (column-length f)
-
-  -- each slice begins with its column
-  cares-front : keptWords t ocs′ ≡ caresOf woven
-  cares-front = front _ _ _ _ _ (D .cares) (words-long careOf)
-
-  values-front : keptWords t ovs′ ≡ valuesOf woven
-  values-front = front _ _ _ _ _ (D .values) (words-long valueOf)
-
-  decisions-front : keptDecisions t ods′ ≡ decisionsOf woven
-  decisions-front = front _ _ _ _ _ (D .decisions) (column-length decisionOf)
-
   -- the kept places of the three slices belong together
   kept-together : Lent (keptWords t ocs′) (keptWords t ovs′) (keptDecisions t ods′)
-  kept-together =
-      let c = ap length cares-front ∙ words-long careOf in
-      let v = ap length values-front ∙ words-long valueOf in
-      let d = ap length decisions-front ∙ column-length decisionOf in
-      record { values = v ∙ sym c; decisions = ap (λ (n : ℕ). n * 2) d ∙ sym c }
+  kept-together = front-together _ _ said woven (t .kept) keeps _ _ _ ocs ovs ods ocs′ ovs′ ods′ (D .cares) (D .values) (D .decisions)
 
   -- The first places of the result slices, as many as the call says it kept, hold the woven list, entry for entry.
   pub woven-places : rulesOf (keptWords t ocs′) (keptWords t ovs′) (keptDecisions t ods′) ≡ weave w (rulesOf cs vs ds)
-  woven-places = ap₃ rulesOf cares-front values-front decisions-front ∙ rules-columns woven
+  woven-places = front-rules _ _ said woven (t .kept) keeps _ _ _ ocs ovs ods ocs′ ovs′ ods′ (D .cares) (D .values) (D .decisions)
 
   -- The three counts of the answer add up to the number of rules lent.
   pub woven-counts : t .kept + t .dropped + t .merged ≡ length ds
