@@ -1,4 +1,5 @@
 // Words of 128 bits, held as two machine words. A contract says which number the result holds, over natural numbers.
+#![tactic(auto)]
 mod machine;
 mod order;
 mod slices;
@@ -10,7 +11,7 @@ pub use slices::{put_word, word_at};
 pub use steps::{before, plus, pushed};
 
 // The number low + high * 2^64.
-#[derive(Drop)]
+#[derive(Clone, Copy)]
 pub struct Word {
     pub low: u64,
     pub high: u64,

@@ -1,0 +1,7 @@
+use native.Mathlib.Omega.{arith}
+use Rattle.words.proofs.WordLaws.{num-lt, without-made}
+use borrow.Author.Rules.{rules}
+use Rattle.bits.proofs.bits.without.Goals as goal
+
+pub returns : goal.returns
+returns c = without-made _ _ (num-lt _ (omega arith) (omega arith)) (num-lt _ (omega arith) (omega arith)) c.flip.ensures c.and.ensures

@@ -1,0 +1,6 @@
+use Rattle.words.proofs.WordLaws.{upper-made}
+use borrow.Author.Rules.{rules}
+use Rattle.bits.proofs.powers.upper.Goals as goal
+
+pub returns : goal.returns
+returns c = upper-made _ c.lowest.ensures c.flip.ensures

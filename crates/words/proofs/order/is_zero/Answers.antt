@@ -1,0 +1,6 @@
+use Rattle.words.proofs.WordLaws.{zero-made}
+use Rattle.std.proofs.Common.{rules}
+use Rattle.words.proofs.order.is_zero.Goals as goal
+
+pub returns : goal.returns
+returns c = zero-made _ c.wide.ensures c.same.ensures
