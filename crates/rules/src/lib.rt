@@ -1,4 +1,5 @@
 // The rule library: rules, lists of rules, refusals and answers; checking and looking up.
+#![tactic(auto)]
 mod checks;
 mod lookups;
 mod slices;
@@ -10,7 +11,7 @@ use words::Word;
 
 // A ternary pattern with a decision. A care bit of 1 means that the place is 0 or 1 as the value bit says; a care bit of
 // 0 is a star, and the value bit there is 0.
-#[derive(Drop)]
+#[derive(Clone, Copy)]
 pub struct Rule {
     pub care: Word,
     pub value: Word,
@@ -18,11 +19,11 @@ pub struct Rule {
 }
 
 // A header in wire order.
-#[derive(Drop)]
+#[derive(Clone, Copy)]
 pub struct Wire(pub Word);
 
 // Why a call was refused: the number of the refusal and its place, which is a list and a rule counted from 1, or 0 and 0.
-#[derive(Drop)]
+#[derive(Clone, Copy)]
 pub struct Refusal {
     pub number: usize,
     pub list: usize,
@@ -30,21 +31,21 @@ pub struct Refusal {
 }
 
 // What a check finds.
-#[derive(Drop)]
+#[derive(Clone, Copy)]
 pub enum Verdict {
     Fine,
     Refused(Refusal),
 }
 
 // The rule that a header hits: its number in its list, counted from 1, and its decision.
-#[derive(Drop)]
+#[derive(Clone, Copy)]
 pub struct Hit {
     pub number: usize,
     pub decision: u16,
 }
 
 // What looking a header up finds: the first matching rule, or that none matches.
-#[derive(Drop)]
+#[derive(Clone, Copy)]
 pub enum Looked {
     Hit(Hit),
     Miss,

@@ -21,7 +21,7 @@ fn rule_matches(rule: Rule, header: Word) -> bool
 }
 
 // Where the first matching rule stands, counted from 0.
-#[derive(Drop)]
+#[derive(Clone, Copy)]
 pub(crate) enum FirstMatch {
     At(usize),
     Nothing,

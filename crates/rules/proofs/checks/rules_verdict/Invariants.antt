@@ -1,0 +1,17 @@
+use Rattle.rules.proofs.SliceLaws.{told, below-rules, few-decisions}
+use Rattle.rules.proofs.CheckLaws.{rules-pass, rules-stop, rules-end}
+use Rattle.rules.specs.Slices.{rules_of}
+use Rattle.rules.specs.Checks.{rule_check, rules_check}
+use lib.ListN.{length, drop}
+use Prim.Native.Nat.{◌+◌, ◌-◌, ◌≤◌}
+use borrow.Author.Rules.{rules}
+use native.Mathlib.Omega.{arith}
+use mathlib.Core.Path.{◌≡◌, refl, sym, ap, ◌∙◌}
+use Rattle.rules.proofs.checks.rules_verdict.Given as goal
+
+abbrev pub invariant-loop-i : goal.invariant-loop-i
+invariant-loop-i l = (l.i ≤ length l.decision)
+    × (rules_check l.width l.list 1 (rules_of l.care l.value l.decision) ≡ rules_check l.width l.list (l.i + 1) (drop l.i (rules_of l.care l.value l.decision)))
+
+abbrev pub decreases-loop-i : goal.decreases-loop-i
+decreases-loop-i l = length l.decision - l.i
