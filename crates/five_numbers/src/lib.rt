@@ -1,11 +1,12 @@
 // The five numbers of a packet's header as one header, in wire order.
+#![tactic(auto)]
 mod headers;
 
 pub use headers::header;
 use rules::{Refusal, Wire};
 
 // The five numbers of a packet's header.
-#[derive(Drop)]
+#[derive(Clone, Copy)]
 pub struct Numbers {
     pub source: u32,
     pub destination: u32,
@@ -15,7 +16,7 @@ pub struct Numbers {
 }
 
 // The header of five numbers.
-#[derive(Drop)]
+#[derive(Clone, Copy)]
 pub enum Built {
     Header(Wire),
     Refused(Refusal),

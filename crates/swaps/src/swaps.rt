@@ -16,39 +16,39 @@ use rules::{
 use words::Word;
 
 // A header in swapped order. Its word is private: outside this module one comes only from `apply`.
-#[derive(Drop)]
+#[derive(Clone, Copy)]
 pub struct Swapped(Word);
 
 // An order of the places 1 to width: what stands at the place that entry k names comes to place k. Entries past the width are 0.
-#[derive(Drop)]
+#[derive(Clone, Copy)]
 pub struct Swap {
     pub places: [u8; 128],
     pub width: u32,
 }
 
 // What moving a rule gives.
-#[derive(Drop)]
+#[derive(Clone, Copy)]
 pub enum MovedRule {
     Moved(Rule),
     Refused(Refusal),
 }
 
 // What moving a header into swapped order gives.
-#[derive(Drop)]
+#[derive(Clone, Copy)]
 pub enum ToSwapped {
     Header(Swapped),
     Refused(Refusal),
 }
 
 // What moving a header back into wire order gives.
-#[derive(Drop)]
+#[derive(Clone, Copy)]
 pub enum ToWire {
     Header(Wire),
     Refused(Refusal),
 }
 
 // A call that hands back a swap: beside a refusal the swap is all zeros.
-#[derive(Drop)]
+#[derive(Clone, Copy)]
 pub struct SwapAnswer {
     pub verdict: Verdict,
     pub swap: Swap,

@@ -1,4 +1,5 @@
 // Text for people: numbers read from words and written in decimal, and patterns written in 0, 1 and *.
+#![tactic(auto)]
 mod decimal;
 mod digits;
 mod numbers;
@@ -10,7 +11,7 @@ pub use patterns::write_pattern;
 use words::Word;
 
 // What a word of text stands for.
-#[derive(Drop)]
+#[derive(Clone, Copy)]
 pub enum Number {
     Value(Word),
     Nothing,

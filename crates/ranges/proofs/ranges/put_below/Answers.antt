@@ -1,0 +1,91 @@
+use mathlib.Core.Path.{◌≡◌, refl, ap₂}
+use Prim.Native.Nat.{ℕ, ◌+◌, ◌-◌, ◌*◌, ◌≤◌, ◌<◌, ◌^◌}
+use native.Mathlib.Omega.{arith}
+use lib.ListN.{length}
+use lib.Pow.{pow_pos, pow_mono}
+use borrow.Author.Rules.{rules}
+use Rattle.ranges.specs.Calls.{widest_field}
+use Rattle.ranges.specs.Prefixes.{prefix, care_word}
+use Rattle.ranges.specs.Ranges.{covering}
+use Rattle.ranges.proofs.FewLaws.{range-few}
+use Rattle.ranges.proofs.StepLaws.{widest_fits, widest-count}
+use Rattle.ranges.proofs.PutLaws.{Putting, putting-none, putting-count, putting-more, putting-done}
+use Rattle.ranges.proofs.ranges.put_below.Goals as goal
+
+-- one more prefix is left to write, and they are few
+left : (c : tie.After-power2 invariant-loop decreases-loop) → c.before.before.before.loop.n < length (covering c.before.before.before.before.before.before.before.args.bits c.before.before.before.before.before.before.before.args.low c.before.before.before.before.before.before.before.args.end)
+left c =
+    let s = c.before.before.before.before.before.before.before in
+    let o = c.before.before.before.loop in
+    omega (arith, putting-count _ _ _ _ _ _ _ _ _ o.invariant.2, widest-count s.args.bits o.at s.args.end _ s.requires.0.1 c.before.stars-at.ensures)
+
+few : (c : tie.After-power2 invariant-loop decreases-loop) → c.before.before.before.loop.n < widest_field * 2
+few c =
+    let s = c.before.before.before.before.before.before.before in
+    omega (arith, left c, s.requires.0.0, range-few s.args.bits s.args.low s.args.end s.requires.0.1)
+
+-- the next prefix ends in the field
+ends : (c : tie.After-power2 invariant-loop decreases-loop) → c.before.before.before.loop.at + c.power2.result ≤ 2 ^ widest_field
+ends c =
+    let s = c.before.before.before.before.before.before.before in
+    let most : 2 ^ s.args.bits ≤ 2 ^ widest_field = pow_mono s.requires.0.0 in
+    omega (arith, most, s.requires.0.1, c.power2.ensures, (widest_fits _ _ _ _ s.requires.0.1 c.before.stars-at.ensures).1)
+
+some : (c : tie.After-power2 invariant-loop decreases-loop) → 0 < c.power2.result
+some c = omega (arith, c.power2.ensures, pow_pos c.before.stars-at.result)
+
+-- the care word of the next prefix
+words : (c : tie.After-power2 invariant-loop decreases-loop) → c.before.before.before.before.power.result - c.power2.result ≡ care_word c.before.before.before.before.before.before.before.args.bits (prefix c.before.stars-at.result c.before.before.before.loop.at)
+unfolding care_word
+words c = ap₂ (λ (x y : ℕ). x - y) c.before.before.before.before.power.ensures c.power2.ensures
+
+pub loop-at-init : goal.loop-at-init
+loop-at-init c = (refl, refl, putting-none _ _ _ _ _)
+
+pub stars_at-requires : goal.stars_at-requires
+stars_at-requires c = (c.requires.0.0, c.loop-at-test.true, c.requires.0.1)
+
+pub power-size-requires : goal.power-size-requires
+power-size-requires c = omega (arith, c.requires.0.0, (widest_fits _ _ _ _ c.requires.0.1 c.stars_at.ensures).0)
+
+pub overflow_sub-care : goal.overflow_sub-care
+overflow_sub-care c = let h : 2 ^ c.stars_at.result ≤ 2 ^ c.args.bits = pow_mono (widest_fits _ _ _ _ c.requires.0.1 c.stars_at.ensures).0 in
+    omega (arith, h, some c, c.power-size.ensures, c.power-field.ensures)
+
+pub overflow_cast-care : goal.overflow_cast-care
+overflow_cast-care c = let most : 2 ^ c.args.bits ≤ 2 ^ widest_field = pow_mono c.requires.0.0 in
+    omega (arith, most, some c, ends c, c.power-field.ensures)
+
+pub offset_bounds-care-n : goal.offset_bounds-care-n
+offset_bounds-care-n c = omega (arith, few c)
+
+pub bounds-care-n : goal.bounds-care-n
+bounds-care-n c = omega (arith, left c, c.loop-at.invariant.0, c.requires.1.0)
+
+pub overflow_cast-value : goal.overflow_cast-value
+overflow_cast-value c = omega (arith, ends c, some c)
+
+pub offset_bounds-value-n : goal.offset_bounds-value-n
+offset_bounds-value-n c = omega (arith, few c)
+
+pub bounds-value-n : goal.bounds-value-n
+bounds-value-n c = omega (arith, left c, c.loop-at.invariant.1, c.requires.1.1)
+
+pub overflow_add-at : goal.overflow_add-at
+overflow_add-at c = omega (arith, ends c)
+
+pub overflow_add-n : goal.overflow_add-n
+overflow_add-n c = omega (arith, few c)
+
+pub loop-at-smaller : goal.loop-at-smaller
+loop-at-smaller c = omega (arith, some c, c.loop-at-test.true)
+
+pub loop-at-preserved : goal.loop-at-preserved
+loop-at-preserved c = let o = c.loop-at in (
+      search rules,
+      search rules,
+      putting-more _ _ _ _ _ _ _ _ _ o.invariant.2 _ _ _ c.requires.0.1 c.stars_at.ensures c.power-size.ensures (words c) (omega (arith, left c, c.requires.1.0)) (omega (arith, left c, c.requires.1.1)),
+    )
+
+pub returns : goal.returns
+returns c = putting-done _ _ _ _ _ _ _ _ _ c.loop-at.invariant.2 c.loop-at-test.false

@@ -1,0 +1,17 @@
+use mathlib.Core.Path.{◌≡◌, sym, ◌∙◌}
+use mathlib.Core.Bool.{true}
+use Prim.Native.Nat.{◌-◌, ◌≤◌, ◌^◌}
+use native.Mathlib.Omega.{arith}
+use lib.Pow.{pow_mono}
+use borrow.Author.Rules.{rules}
+use borrow.Author.Tests.{not-true, not-false}
+use Rattle.ranges.specs.Calls.{widest_field}
+use Rattle.ranges.specs.Inner.{opens}
+use Rattle.ranges.proofs.StepLaws.{open_none, widest-here, widest-last}
+use Rattle.ranges.proofs.ranges.stars_at.Given as goal
+
+abbrev pub invariant-loop-stars : goal.invariant-loop-stars
+invariant-loop-stars l = (l.stars ≤ l.bits) × (opens l.at l.end l.stars ≡ true)
+
+abbrev pub decreases-loop-stars : goal.decreases-loop-stars
+decreases-loop-stars l = l.bits - l.stars

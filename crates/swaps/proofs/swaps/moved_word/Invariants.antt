@@ -1,0 +1,18 @@
+use mathlib.Core.Path.{◌≡◌, sym, ap, ◌∙◌}
+use Prim.Native.Nat.{◌≤◌, ◌-◌}
+use native.Mathlib.Omega.{arith}
+use borrow.Author.Rules.{rules}
+use Rattle.words.specs.Halves.{num, halves}
+use Rattle.words.proofs.WordLaws.{halves-zero}
+use Rattle.rules.specs.Checks.{widest}
+use Rattle.swaps.specs.Swaps.{word_from}
+use Rattle.swaps.proofs.WordLaws.{word-zero}
+use Rattle.swaps.proofs.SwapLaws.{good-perm}
+use Rattle.swaps.proofs.SwapSteps.{bits_of, pushed-on, moved-is}
+use Rattle.swaps.proofs.swaps.moved_word.Given as goal
+
+abbrev pub invariant-loop-i : goal.invariant-loop-i
+invariant-loop-i l = (l.i ≤ l.width) × (l.acc ≡ halves (word_from l.i (bits_of l.width l.places (num l.word))))
+
+abbrev pub decreases-loop-i : goal.decreases-loop-i
+decreases-loop-i l = l.width - l.i

@@ -1,0 +1,23 @@
+use mathlib.Core.Path.{◌≡◌, sym, ap, ◌∙◌}
+use mathlib.Core.Logic.{⊎_elim}
+use Prim.Native.Nat.{ℕ, ◌≤◌, ◌-◌}
+use native.Mathlib.Omega.{arith}
+use borrow.Author.Rules.{rules}
+use Rattle.swaps.specs.Swaps.{seat}
+use Rattle.swaps.proofs.SwapLaws.{seat-zero}
+use Rattle.swaps.proofs.SwapSteps.{seat-yes, seat-no}
+use Rattle.swaps.proofs.swaps.seat_of.Goals as goal
+
+pub loop-i-init : goal.loop-i-init
+loop-i-init c = (omega arith, omega arith, sym (seat-zero _ _))
+
+pub loop-i-preserved : goal.loop-i-preserved
+loop-i-preserved c = let i = c.loop-i.i in
+    let a = c.args in
+    ⊎_elim (λ v. omega (arith, seat-yes i a.places.now a.place v.0.true)) (λ v. omega (arith, seat-no i a.places.now a.place v.0.left))
+    c.if-places-i.branch
+
+pub returns : goal.returns
+returns c = let a = c.args in
+    let e : c.loop-i.i ≡ a.width = omega arith in
+    c.loop-i.invariant.2 ∙ ap (λ (n : ℕ). seat n a.places.now a.place) e

@@ -1,0 +1,15 @@
+use mathlib.Core.Path.{◌≡◌, sym, ap, ◌∙◌}
+use mathlib.Core.Logic.{⊎_elim}
+use Prim.Native.Nat.{ℕ, ◌≤◌, ◌-◌}
+use native.Mathlib.Omega.{arith}
+use borrow.Author.Rules.{rules}
+use Rattle.swaps.specs.Swaps.{seat}
+use Rattle.swaps.proofs.SwapLaws.{seat-zero}
+use Rattle.swaps.proofs.SwapSteps.{seat-yes, seat-no}
+use Rattle.swaps.proofs.swaps.seat_of.Given as goal
+
+abbrev pub invariant-loop-i : goal.invariant-loop-i
+invariant-loop-i l = (l.i ≤ l.width) × (l.n ≤ l.i) × (l.n ≡ seat l.i l.places l.place)
+
+abbrev pub decreases-loop-i : goal.decreases-loop-i
+decreases-loop-i l = l.width - l.i

@@ -1,0 +1,15 @@
+use mathlib.Core.Path.{◌≡◌, sym, ap, ◌∙◌}
+use mathlib.Core.Logic.{⊎_elim}
+use Prim.Native.Nat.{ℕ, ◌≤◌, ◌-◌}
+use native.Mathlib.Omega.{arith}
+use borrow.Author.Rules.{rules}
+use Rattle.swaps.specs.Swaps.{times}
+use Rattle.swaps.proofs.SwapLaws.{times_zero}
+use Rattle.swaps.proofs.SwapSteps.{times-yes, times-no}
+use Rattle.swaps.proofs.swaps.times_of.Given as goal
+
+abbrev pub invariant-loop-i : goal.invariant-loop-i
+invariant-loop-i l = (l.i ≤ l.width) × (l.n ≤ l.i) × (l.n ≡ times l.i l.places l.place)
+
+abbrev pub decreases-loop-i : goal.decreases-loop-i
+decreases-loop-i l = l.width - l.i
