@@ -13,54 +13,48 @@ use Rattle.ranges.proofs.PutLaws.{Putting, putting-none, putting-count, putting-
 use Rattle.ranges.proofs.ranges.put_below.Goals as goal
 
 -- one more prefix is left to write, and they are few
-left : (c : tie.After-power2 invariant-loop decreases-loop) → c.before.before.before.loop.n < length (covering c.before.before.before.before.before.before.before.args.bits c.before.before.before.before.before.before.before.args.low c.before.before.before.before.before.before.before.args.end)
-left c =
-    let s = c.before.before.before.before.before.before.before in
-    let o = c.before.before.before.loop in
-    omega (arith, putting-count _ _ _ _ _ _ _ _ _ o.invariant.2, widest-count s.args.bits o.at s.args.end _ s.requires.0.1 c.before.stars-at.ensures)
+left : (c : goal.After-power-size) → c.loop-at.n < length (covering c.args.bits c.args.low c.args.end)
+left c = let o = c.loop-at in
+    omega (arith, putting-count _ _ _ _ _ _ _ _ _ o.invariant.2, widest-count c.args.bits o.at c.args.end _ c.requires.bits_le_widest_field.1 c.stars_at.ensures)
 
-few : (c : tie.After-power2 invariant-loop decreases-loop) → c.before.before.before.loop.n < widest_field * 2
-few c =
-    let s = c.before.before.before.before.before.before.before in
-    omega (arith, left c, s.requires.0.0, range-few s.args.bits s.args.low s.args.end s.requires.0.1)
+few : (c : goal.After-power-size) → c.loop-at.n < widest_field * 2
+few c = omega (arith, left c, c.requires.bits_le_widest_field.0, range-few c.args.bits c.args.low c.args.end c.requires.bits_le_widest_field.1)
 
 -- the next prefix ends in the field
-ends : (c : tie.After-power2 invariant-loop decreases-loop) → c.before.before.before.loop.at + c.power2.result ≤ 2 ^ widest_field
-ends c =
-    let s = c.before.before.before.before.before.before.before in
-    let most : 2 ^ s.args.bits ≤ 2 ^ widest_field = pow_mono s.requires.0.0 in
-    omega (arith, most, s.requires.0.1, c.power2.ensures, (widest_fits _ _ _ _ s.requires.0.1 c.before.stars-at.ensures).1)
+ends : (c : goal.After-power-size) → c.loop-at.at + c.power-size.result ≤ 2 ^ widest_field
+ends c = let most : 2 ^ c.args.bits ≤ 2 ^ widest_field = pow_mono c.requires.bits_le_widest_field.0 in
+    omega (arith, most, c.requires.bits_le_widest_field.1, c.power-size.ensures, (widest_fits _ _ _ _ c.requires.bits_le_widest_field.1 c.stars_at.ensures).1)
 
-some : (c : tie.After-power2 invariant-loop decreases-loop) → 0 < c.power2.result
-some c = omega (arith, c.power2.ensures, pow_pos c.before.stars-at.result)
+some : (c : goal.After-power-size) → 0 < c.power-size.result
+some c = omega (arith, c.power-size.ensures, pow_pos c.stars_at.result)
 
 -- the care word of the next prefix
-words : (c : tie.After-power2 invariant-loop decreases-loop) → c.before.before.before.before.power.result - c.power2.result ≡ care_word c.before.before.before.before.before.before.before.args.bits (prefix c.before.stars-at.result c.before.before.before.loop.at)
+words : (c : goal.After-power-size) → c.power-field.result - c.power-size.result ≡ care_word c.args.bits (prefix c.stars_at.result c.loop-at.at)
 unfolding care_word
-words c = ap₂ (λ (x y : ℕ). x - y) c.before.before.before.before.power.ensures c.power2.ensures
+words c = ap₂ (λ (x y : ℕ). x - y) c.power-field.ensures c.power-size.ensures
 
 pub loop-at-init : goal.loop-at-init
 loop-at-init c = (refl, refl, putting-none _ _ _ _ _)
 
 pub stars_at-requires : goal.stars_at-requires
-stars_at-requires c = (c.requires.0.0, c.loop-at-test.true, c.requires.0.1)
+stars_at-requires c = (c.requires.bits_le_widest_field.0, c.loop-at-test.true, c.requires.bits_le_widest_field.1)
 
 pub power-size-requires : goal.power-size-requires
-power-size-requires c = omega (arith, c.requires.0.0, (widest_fits _ _ _ _ c.requires.0.1 c.stars_at.ensures).0)
+power-size-requires c = omega (arith, c.requires.bits_le_widest_field.0, (widest_fits _ _ _ _ c.requires.bits_le_widest_field.1 c.stars_at.ensures).0)
 
 pub overflow_sub-care : goal.overflow_sub-care
-overflow_sub-care c = let h : 2 ^ c.stars_at.result ≤ 2 ^ c.args.bits = pow_mono (widest_fits _ _ _ _ c.requires.0.1 c.stars_at.ensures).0 in
+overflow_sub-care c = let h : 2 ^ c.stars_at.result ≤ 2 ^ c.args.bits = pow_mono (widest_fits _ _ _ _ c.requires.bits_le_widest_field.1 c.stars_at.ensures).0 in
     omega (arith, h, some c, c.power-size.ensures, c.power-field.ensures)
 
 pub overflow_cast-care : goal.overflow_cast-care
-overflow_cast-care c = let most : 2 ^ c.args.bits ≤ 2 ^ widest_field = pow_mono c.requires.0.0 in
+overflow_cast-care c = let most : 2 ^ c.args.bits ≤ 2 ^ widest_field = pow_mono c.requires.bits_le_widest_field.0 in
     omega (arith, most, some c, ends c, c.power-field.ensures)
 
 pub offset_bounds-care-n : goal.offset_bounds-care-n
 offset_bounds-care-n c = omega (arith, few c)
 
 pub bounds-care-n : goal.bounds-care-n
-bounds-care-n c = omega (arith, left c, c.loop-at.invariant.0, c.requires.1.0)
+bounds-care-n c = omega (arith, left c, c.loop-at.invariant.0, c.requires.end_in_bounds.0)
 
 pub overflow_cast-value : goal.overflow_cast-value
 overflow_cast-value c = omega (arith, ends c, some c)
@@ -69,7 +63,7 @@ pub offset_bounds-value-n : goal.offset_bounds-value-n
 offset_bounds-value-n c = omega (arith, few c)
 
 pub bounds-value-n : goal.bounds-value-n
-bounds-value-n c = omega (arith, left c, c.loop-at.invariant.1, c.requires.1.1)
+bounds-value-n c = omega (arith, left c, c.loop-at.invariant.1, c.requires.end_in_bounds.1)
 
 pub overflow_add-at : goal.overflow_add-at
 overflow_add-at c = omega (arith, ends c)
@@ -84,7 +78,7 @@ pub loop-at-preserved : goal.loop-at-preserved
 loop-at-preserved c = let o = c.loop-at in (
       search rules,
       search rules,
-      putting-more _ _ _ _ _ _ _ _ _ o.invariant.2 _ _ _ c.requires.0.1 c.stars_at.ensures c.power-size.ensures (words c) (omega (arith, left c, c.requires.1.0)) (omega (arith, left c, c.requires.1.1)),
+      putting-more _ _ _ _ _ _ _ _ _ o.invariant.2 _ _ _ c.requires.bits_le_widest_field.1 c.stars_at.ensures c.power-size.ensures (words c) (omega (arith, left c, c.requires.end_in_bounds.0)) (omega (arith, left c, c.requires.end_in_bounds.1)),
     )
 
 pub returns : goal.returns

@@ -13,7 +13,7 @@ overflow_add-high c = let f = prefixes-facts _ _ _ _ _ (verdict-passed _ _ c.pre
 
 pub put_below-requires : goal.put_below-requires
 put_below-requires c = let f = prefixes-facts _ _ _ _ _ (verdict-passed _ _ c.prefixes_verdict.ensures c.in_default.is) in
-    ((f.0.few, omega (arith, ranged-end _ _ _ f.0)), (f.2, omega (arith, f.1, f.2)))
+    record { bits_le_widest_field = (f.0.few, omega (arith, ranged-end _ _ _ f.0)); end_in_bounds = (f.2, omega (arith, f.1, f.2)) }
 
 pub returns : goal.returns
 returns c = prefixes-given _ _ _ _ _ _ c.prefixes_verdict.ensures _ _ _ c.in_default.is c.put_below.ensures

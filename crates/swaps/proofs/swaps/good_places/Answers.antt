@@ -14,11 +14,11 @@ loop-i-init c = (omega arith, all_none _)
 
 pub returns-then-not-entry_good : goal.returns-then-not-entry_good
 returns-then-not-entry_good c = let a = c.args in
-    good-no a.width a.places.now c.loop-i.i c.loop-i-test.true (sym c.entry_good.ensures ∙ not-true _ c.if-not-entry_good.true)
+    good-no a.width a.places.now c.loop-i.i c.loop-i-test.true (sym c.entry_good.ensures ∙ c.if-not-entry_good.true)
 
 pub loop-i-preserved : goal.loop-i-preserved
 loop-i-preserved c = let a = c.args in
-    (omega arith, all_more _ _ c.loop-i.invariant.1 (sym c.entry_good.ensures ∙ not-false _ c.if-not-entry_good.false))
+    (omega arith, all_more _ _ c.loop-i.invariant.1 (sym c.entry_good.ensures ∙ c.if-not-entry_good.false))
 
 pub returns : goal.returns
 returns c = let a = c.args in good-yes a.width a.places.now c.loop-i.i (omega arith) c.loop-i.invariant.1

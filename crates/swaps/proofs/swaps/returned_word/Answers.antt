@@ -11,11 +11,8 @@ use Rattle.swaps.proofs.ReturnLaws.{Top, top, of_one, word_held, without-less, R
 use Rattle.swaps.proofs.swaps.returned_word.Goals as goal
 
 -- the highest bit that is left
-found : (c : tie.After-leading-zeros invariant-loop decreases-loop)
-    → Top 128 c.before.before.before.before.before.args.width (num c.before.before.before.loop.left) c.leading_zeros.result
-found c =
-    let l = c.before.before.before in
-    top 128 _ _ l.before.before.requires.0 l.loop.invariant.1.rest c.before.before.is_zero.ensures c.before.if1.true c.leading_zeros.ensures
+found : (c : goal.After-leading_zeros-weight) → Top 128 c.args.width (num c.loop-left.left) c.leading_zeros-weight.result
+found c = top 128 _ _ c.requires.0 c.loop-left.invariant.1.rest c.is_zero.ensures c.loop-left-test.true c.leading_zeros-weight.ensures
 
 pub loop-left-init : goal.loop-left-init
 loop-left-init c = (word_held _ c.wide-out.ensures, rw (holds c.wide-out.ensures) (return-none _ _ _ c.requires.2))
@@ -30,18 +27,18 @@ pub overflow_sub-place-in-loop-left : goal.overflow_sub-place-in-loop-left
 overflow_sub-place-in-loop-left c = let t = found c in omega arith
 
 pub overflow_cast-place-in-loop-left : goal.overflow_cast-place-in-loop-left
-overflow_cast-place-in-loop-left c = omega (arith, place_in _ _ _ c.requires.0 c.requires.1 _ (found c).inside)
+overflow_cast-place-in-loop-left c = omega (arith, place_in _ _ _ c.requires.0 c.requires.1 _ (found c.before.before).inside)
 
 pub overflow_sub-width : goal.overflow_sub-width
-overflow_sub-width c = omega (arith, place_in _ _ _ c.requires.0 c.requires.1 _ (found c).inside)
+overflow_sub-width c = omega (arith, place_in _ _ _ c.requires.0 c.requires.1 _ (found c.before.before).inside)
 
 pub loop-left-smaller : goal.loop-left-smaller
-loop-left-smaller c = let t = found c in
+loop-left-smaller c = let t = found c.before.before.before.before.before.before in
     rw (of_one (without _) _ (omega arith) c.single-in-loop-left.ensures c.without-left.ensures) (without-less _ _ t.set)
 
 pub loop-left-preserved : goal.loop-left-preserved
 loop-left-preserved c = let l = c.loop-left in
-    let t = found c in
+    let t = found c.before.before.before.before.before.before in
     let h = place_in _ _ _ c.requires.0 c.requires.1 _ t.inside in
     let o = of_one (bit_or (num l.out)) _ (omega arith) c.single.ensures c.or-out.ensures in
     let n = of_one (without (num l.left)) _ (omega arith) c.single-in-loop-left.ensures c.without-left.ensures in (
@@ -51,4 +48,4 @@ loop-left-preserved c = let l = c.loop-left in
 
 pub returns : goal.returns
 returns c = let l = c.loop-left in
-    l.invariant.0 ∙ ap halves (return-all _ _ _ c.requires.0 c.requires.1 _ _ _ (eqb_yes _ _ (sym c.is_zero.ensures ∙ not-false _ c.loop-left-test.false)) l.invariant.1)
+    l.invariant.0 ∙ ap halves (return-all _ _ _ c.requires.0 c.requires.1 _ _ _ (eqb_yes _ _ (sym c.is_zero.ensures ∙ c.loop-left-test.false)) l.invariant.1)

@@ -7,6 +7,7 @@ use Rattle.swaps.specs.Swaps.{times}
 use Rattle.swaps.proofs.SwapLaws.{times_zero}
 use Rattle.swaps.proofs.SwapSteps.{times-yes, times-no}
 use Rattle.swaps.proofs.swaps.times_of.Goals as goal
+use Rattle.swaps.proofs.swaps.times_of.Goals.{then-places-i, else-places-i}
 
 pub loop-i-init : goal.loop-i-init
 loop-i-init c = (omega arith, omega arith, sym (times_zero _ _))
@@ -14,8 +15,7 @@ loop-i-init c = (omega arith, omega arith, sym (times_zero _ _))
 pub loop-i-preserved : goal.loop-i-preserved
 loop-i-preserved c = let i = c.loop-i.i in
     let a = c.args in
-    ⊎_elim (λ v. omega (arith, times-yes i a.places.now a.place v.0.true)) (λ v. omega (arith, times-no i a.places.now a.place v.0.left))
-    c.if-places-i.branch
+    (elim c.if-places-i.branch [ then-places-i v ↦ omega (arith, times-yes i a.places.now a.place v.if-places-i.true) | else-places-i v ↦ omega (arith, times-no i a.places.now a.place v.if-places-i.false) ])
 
 pub returns : goal.returns
 returns c = let a = c.args in

@@ -12,7 +12,7 @@ pub returns-then-out-from : goal.returns-then-out-from
 returns-then-out-from c = no_room _ _ _ _ c.digits_at_end-from.ensures.1 c.digits_at_end-from.ensures.2 c.if-out-from.true
 
 pub loop-i-init : goal.loop-i-init
-loop-i-init c = let d = c.digits_at_end-from in (omega arith, omega arith, refl, copy-none _ d.new.1.0 d.result _ refl)
+loop-i-init c = let d = c.digits_at_end-from in (omega arith, omega arith, refl, copy-none _ d.new.space d.result _ refl)
 
 pub loop-i-preserved : goal.loop-i-preserved
 loop-i-preserved c = let o = c.loop-i in
