@@ -1,4 +1,5 @@
 // Five-field access rules (addresses, ports, protocol) as a list of ternary rules.
+#![tactic(auto)]
 mod checks;
 mod counts;
 mod entries;
@@ -10,7 +11,7 @@ use rules::Refusal;
 
 // A rule over five fields: a prefix of the source address and one of the destination address, each an address and how many of its first
 // bits count; a range of source ports and one of destination ports; a protocol, or 256 for any; and the decision.
-#[derive(Drop)]
+#[derive(Clone, Copy)]
 pub struct FiveFieldRule {
     pub source: u32,
     pub source_length: u32,
@@ -25,7 +26,7 @@ pub struct FiveFieldRule {
 }
 
 // How many entries a list of five-field rules becomes.
-#[derive(Drop)]
+#[derive(Clone, Copy)]
 pub enum Expanded {
     Entries(usize),
     Refused(Refusal),

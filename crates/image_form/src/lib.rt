@@ -1,4 +1,5 @@
 // The form of an image: its two formats, and the bytes, contents entries and rules that stand in it, each read from any bytes.
+#![tactic(auto)]
 mod formats;
 mod numbers;
 mod parts;
@@ -7,7 +8,7 @@ pub use formats::layout;
 pub use parts::{byte_at, entry_in, rule_in};
 
 // A format's layout: whether there is such a format, the bytes of a word and of a rule, and the greatest width.
-#[derive(Drop)]
+#[derive(Clone, Copy)]
 pub struct FormatLayout {
     pub known: bool,
     pub word: usize,
@@ -16,7 +17,7 @@ pub struct FormatLayout {
 }
 
 // A contents entry: where the body starts, its number of rules, and the list's id.
-#[derive(Drop)]
+#[derive(Clone, Copy)]
 pub struct Entry {
     pub offset: usize,
     pub count: usize,

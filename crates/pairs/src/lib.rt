@@ -1,4 +1,5 @@
 // Two rules: covering, crossing and distance.
+#![tactic(auto)]
 mod pairs;
 mod patterns;
 
@@ -7,7 +8,7 @@ pub use patterns::{rule_covers, rule_crosses};
 use rules::Refusal;
 
 // Whether something holds of two rules.
-#[derive(Drop)]
+#[derive(Clone, Copy)]
 pub enum Holds {
     Yes,
     No,
@@ -15,7 +16,7 @@ pub enum Holds {
 }
 
 // A number of places.
-#[derive(Drop)]
+#[derive(Clone, Copy)]
 pub enum Measured {
     Places(u32),
     Refused(Refusal),

@@ -2,7 +2,7 @@ use mathlib.Core.Path.{◌≡◌, sym, ap, ◌∙◌}
 use native.Mathlib.Omega.{arith}
 use lib.Bits.{bit_or}
 use borrow.Author.Rules.{rules}
-use borrow.Author.Tests.{not-false}
+use mathlib.Core.Bool.{not}
 use Rattle.words.specs.Words.{without}
 use Rattle.words.specs.Halves.{num, halves}
 use Rattle.words.proofs.Tests.{eqb_yes}
@@ -12,7 +12,7 @@ use Rattle.swaps.proofs.swaps.returned_word.Goals as goal
 
 -- the highest bit that is left
 found : (c : goal.After-leading_zeros-weight) → Top 128 c.args.width (num c.loop-left.left) c.leading_zeros-weight.result
-found c = top 128 _ _ c.requires.0 c.loop-left.invariant.1.rest c.is_zero.ensures c.loop-left-test.true c.leading_zeros-weight.ensures
+found c = top 128 _ _ c.requires.0 c.loop-left.invariant.1.rest c.is_zero.ensures (ap not c.loop-left-test.true) c.leading_zeros-weight.ensures
 
 pub loop-left-init : goal.loop-left-init
 loop-left-init c = (word_held _ c.wide-out.ensures, rw (holds c.wide-out.ensures) (return-none _ _ _ c.requires.2))

@@ -1,0 +1,17 @@
+use Rattle.five_fields.proofs.PutLaws.{Expanding, expanding-none, expanding-room, expanding-next, expanding-done}
+use Rattle.five_fields.proofs.CheckLaws.{rules-sound, good-at, good-fields, good-ports}
+use Rattle.five_fields.specs.Slices.{slices}
+use Rattle.five_fields.specs.FiveFieldRules.{fields_fit, ports_fit}
+use Rattle.rules.proofs.SliceLaws.{kept-lent}
+use borrow.Author.Rules.{rules}
+use lib.ListN.{length}
+use native.Mathlib.Omega.{arith}
+use Prim.Native.Nat.{◌-◌}
+use mathlib.Core.Path.{ap, ◌∙◌}
+use Rattle.five_fields.proofs.expansions.put_all.Given as goal
+
+abbrev pub invariant-loop-i : goal.invariant-loop-i
+invariant-loop-i l = Expanding (slices l.source l.source_length l.destination l.destination_length l.source_low l.source_high l.destination_low l.destination_high l.protocol l.decision) l.initial.out_care l.initial.out_value l.initial.out_decision l.i l.at l.out_care l.out_value l.out_decision
+
+abbrev pub decreases-loop-i : goal.decreases-loop-i
+decreases-loop-i l = length l.decision - l.i
