@@ -1,9 +1,10 @@
 // Which command the words of the tool's command line ask for.
+#![tactic(auto)]
 ghost use Rattle.std.specs.Prelude.{◌≡◌};
 ghost use Rattle.command_line.specs.Words.{asks, two_file_command_of, file_command_of, command_of, names_defaults, wanted_of};
 
 // What a command line can ask for.
-#[derive(Drop)]
+#[derive(Clone, Copy)]
 pub enum Command {
     Check,
     Show,
@@ -22,7 +23,7 @@ pub enum Command {
 
 // What a command line asks for: the command, and where the words for the old and the new default of a comparison stand, counted from the
 // tool's own name; 0 where it names none.
-#[derive(Drop)]
+#[derive(Clone, Copy)]
 pub struct Wanted {
     pub command: Command,
     pub old: usize,

@@ -1,4 +1,5 @@
 // Images that carry rule lists: asking and reading them, each on any bytes.
+#![tactic(auto)]
 mod places;
 mod questions;
 mod reading;
@@ -9,14 +10,14 @@ pub use reading::read;
 use rules::Refusal;
 
 // The answer to a call that gives one number.
-#[derive(Drop)]
+#[derive(Clone, Copy)]
 pub enum NumberAnswer {
     Number(usize),
     Refused(Refusal),
 }
 
 // A contents entry: the list's id and its number of rules.
-#[derive(Drop)]
+#[derive(Clone, Copy)]
 pub enum Listed {
     List { id: u16, rules: usize },
     Refused(Refusal),

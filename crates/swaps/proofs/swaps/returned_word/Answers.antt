@@ -10,35 +10,38 @@ use Rattle.words.proofs.WordLaws.{holds}
 use Rattle.swaps.proofs.ReturnLaws.{Top, top, of_one, word_held, without-less, Returning, return-none, place_in, return-more, return-all}
 use Rattle.swaps.proofs.swaps.returned_word.Goals as goal
 
--- the highest bit that is left
-found : (c : goal.After-leading_zeros-weight) → Top 128 c.args.width (num c.loop-left.left) c.leading_zeros-weight.result
-found c = top 128 _ _ c.requires.0 c.loop-left.invariant.1.rest c.is_zero.ensures (ap not c.loop-left-test.true) c.leading_zeros-weight.ensures
-
 pub loop-left-init : goal.loop-left-init
 loop-left-init c = (word_held _ c.wide-out.ensures, rw (holds c.wide-out.ensures) (return-none _ _ _ c.requires.2))
 
 pub overflow_sub-weight : goal.overflow_sub-weight
-overflow_sub-weight c = let t = found c in omega arith
+overflow_sub-weight c = let found : Top 128 c.args.width (num c.loop-left.left) c.leading_zeros-weight.result = top 128 _ _ c.requires.0 c.loop-left.invariant.1.rest c.is_zero.ensures (ap not c.loop-left-test.true) c.leading_zeros-weight.ensures in
+    let t = found in omega arith
 
 pub overflow_sub-place : goal.overflow_sub-place
-overflow_sub-place c = let t = found c in omega arith
+overflow_sub-place c = let found : Top 128 c.args.width (num c.loop-left.left) c.leading_zeros-weight.result = top 128 _ _ c.requires.0 c.loop-left.invariant.1.rest c.is_zero.ensures (ap not c.loop-left-test.true) c.leading_zeros-weight.ensures in
+    let t = found in omega arith
 
 pub overflow_sub-place-in-loop-left : goal.overflow_sub-place-in-loop-left
-overflow_sub-place-in-loop-left c = let t = found c in omega arith
+overflow_sub-place-in-loop-left c = let found : Top 128 c.args.width (num c.loop-left.left) c.leading_zeros-weight.result = top 128 _ _ c.requires.0 c.loop-left.invariant.1.rest c.is_zero.ensures (ap not c.loop-left-test.true) c.leading_zeros-weight.ensures in
+    let t = found in omega arith
 
 pub overflow_cast-place-in-loop-left : goal.overflow_cast-place-in-loop-left
-overflow_cast-place-in-loop-left c = omega (arith, place_in _ _ _ c.requires.0 c.requires.1 _ (found c.before.before).inside)
+overflow_cast-place-in-loop-left c = let found : Top 128 c.args.width (num c.loop-left.left) c.leading_zeros-weight.result = top 128 _ _ c.requires.0 c.loop-left.invariant.1.rest c.is_zero.ensures (ap not c.loop-left-test.true) c.leading_zeros-weight.ensures in
+    omega (arith, place_in _ _ _ c.requires.0 c.requires.1 _ (found).inside)
 
 pub overflow_sub-width : goal.overflow_sub-width
-overflow_sub-width c = omega (arith, place_in _ _ _ c.requires.0 c.requires.1 _ (found c.before.before).inside)
+overflow_sub-width c = let found : Top 128 c.args.width (num c.loop-left.left) c.leading_zeros-weight.result = top 128 _ _ c.requires.0 c.loop-left.invariant.1.rest c.is_zero.ensures (ap not c.loop-left-test.true) c.leading_zeros-weight.ensures in
+    omega (arith, place_in _ _ _ c.requires.0 c.requires.1 _ (found).inside)
 
 pub loop-left-smaller : goal.loop-left-smaller
-loop-left-smaller c = let t = found c.before.before.before.before.before.before in
+loop-left-smaller c = let found : Top 128 c.args.width (num c.loop-left.left) c.leading_zeros-weight.result = top 128 _ _ c.requires.0 c.loop-left.invariant.1.rest c.is_zero.ensures (ap not c.loop-left-test.true) c.leading_zeros-weight.ensures in
+    let t = found in
     rw (of_one (without _) _ (omega arith) c.single-in-loop-left.ensures c.without-left.ensures) (without-less _ _ t.set)
 
 pub loop-left-preserved : goal.loop-left-preserved
-loop-left-preserved c = let l = c.loop-left in
-    let t = found c.before.before.before.before.before.before in
+loop-left-preserved c = let found : Top 128 c.args.width (num c.loop-left.left) c.leading_zeros-weight.result = top 128 _ _ c.requires.0 c.loop-left.invariant.1.rest c.is_zero.ensures (ap not c.loop-left-test.true) c.leading_zeros-weight.ensures in
+    let l = c.loop-left in
+    let t = found in
     let h = place_in _ _ _ c.requires.0 c.requires.1 _ t.inside in
     let o = of_one (bit_or (num l.out)) _ (omega arith) c.single.ensures c.or-out.ensures in
     let n = of_one (without (num l.left)) _ (omega arith) c.single-in-loop-left.ensures c.without-left.ensures in (

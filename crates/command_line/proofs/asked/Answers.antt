@@ -1,0 +1,23 @@
+use mathlib.Core.Path.{sym, ◌∙◌}
+use native.Mathlib.Omega.{arith}
+use Rattle.command_line.specs.Words.{wanted_of}
+use Rattle.command_line.proofs.WordLaws.{defaults-long}
+use borrow.Author.Rules.{rules}
+use Rattle.command_line.proofs.asked.Goals as goal
+
+pub overflow_sub-words : goal.overflow_sub-words
+overflow_sub-words c = omega (arith, defaults-long _ _ _ (sym c.names_defaults.ensures ∙ c.if-names_defaults.true))
+
+pub overflow_sub-result : goal.overflow_sub-result
+overflow_sub-result c = omega (arith, defaults-long _ _ _ (sym c.names_defaults.ensures ∙ c.if-names_defaults.true))
+
+pub overflow_sub-result-then-names_defaults : goal.overflow_sub-result-then-names_defaults
+overflow_sub-result-then-names_defaults c = omega (arith, defaults-long _ _ _ (sym c.names_defaults.ensures ∙ c.if-names_defaults.true))
+
+pub returns-then-names_defaults : goal.returns-then-names_defaults
+unfolding wanted_of
+returns-then-names_defaults c = simp (sym c.names_defaults.ensures ∙ c.if-names_defaults.true, c.command_of.ensures)
+
+pub returns : goal.returns
+unfolding wanted_of
+returns c = simp (sym c.names_defaults.ensures ∙ c.if-names_defaults.false, c.command_of-2.ensures)

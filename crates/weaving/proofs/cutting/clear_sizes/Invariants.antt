@@ -1,0 +1,14 @@
+use mathlib.Core.Path.{◌≡◌, refl}
+use Prim.Native.Nat.{◌-◌, ◌≤◌}
+use native.Mathlib.Omega.{arith}
+use borrow.Author.Rules.{rules}
+use lib.ListN.{length}
+use Rattle.weaving.specs.Inner.{Cleared}
+use Rattle.weaving.proofs.SizeLaws.{cleared-none, cleared_more, cleared-end}
+use Rattle.weaving.proofs.cutting.clear_sizes.Given as goal
+
+abbrev pub invariant-loop-k : goal.invariant-loop-k
+invariant-loop-k l = (l.from ≤ l.k) × (l.k ≤ l.to) × (length l.sizes ≡ length l.initial.sizes) × Cleared l.initial.sizes l.sizes l.from l.k
+
+abbrev pub decreases-loop-k : goal.decreases-loop-k
+decreases-loop-k l = l.to - l.k

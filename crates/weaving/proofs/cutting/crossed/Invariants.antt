@@ -1,0 +1,16 @@
+use mathlib.Core.Path.{ap₂, ◌∙◌}
+use Prim.Native.Nat.{◌-◌, ◌≤◌}
+use native.Mathlib.Omega.{arith}
+use borrow.Author.Rules.{rules}
+use lib.ListN.{length}
+use Rattle.rules.specs.Slices.{rules_of, rule_at}
+use Rattle.rules.proofs.SliceLaws.{told, rules-length}
+use Rattle.rules.specs.Rules.{crosses}
+use Rattle.weaving.proofs.ChunkLaws.{Looking, looking-none, looking-more, looking-yes, looking-no}
+use Rattle.weaving.proofs.cutting.crossed.Given as goal
+
+abbrev pub invariant-loop-i : goal.invariant-loop-i
+invariant-loop-i l = (l.from ≤ l.i) × (l.i ≤ l.k) × Looking (crosses (rule_at (rules_of l.care l.value l.decision) l.k)) (rules_of l.care l.value l.decision) l.from l.k l.i
+
+abbrev pub decreases-loop-i : goal.decreases-loop-i
+decreases-loop-i l = l.k - l.i

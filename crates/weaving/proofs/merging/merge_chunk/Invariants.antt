@@ -1,0 +1,21 @@
+use mathlib.Core.Path.{refl}
+use mathlib.Core.List.{List}
+use Prim.Native.Nat.{◌-◌, ◌≤◌}
+use native.Mathlib.Omega.{arith}
+use borrow.Author.Rules.{rules}
+use lib.ListN.{length}
+use Rattle.rules.specs.Rule.{Rule}
+use Rattle.rules.specs.Slices.{rules_of}
+use Rattle.rules.proofs.SliceLaws.{Kept, kept-lent, rules-length}
+use Rattle.weaving.specs.Inner.{Tried}
+use Rattle.weaving.proofs.PairLaws.{tried-none, pair_of, none_of}
+use Rattle.weaving.proofs.GapLaws.{Merging, merging-none, merging-pair, merging-done, tried-merged}
+use Rattle.weaving.proofs.merging.merge_chunk.Given as goal
+
+abbrev pub invariant-loop-i : goal.invariant-loop-i
+invariant-loop-i l = Kept l.initial.care l.initial.value l.initial.decision l.care l.value l.decision
+    × Merging (rules_of l.initial.care l.initial.value l.initial.decision) (rules_of l.care l.value l.decision) l.from l.to l.end
+    × Tried (rules_of l.care l.value l.decision) l.from l.row l.done l.end
+
+abbrev pub decreases-loop-i : goal.decreases-loop-i
+decreases-loop-i l = l.end
