@@ -15,7 +15,7 @@ use bits::{and, leading_zeros, lowest, or, single, without, xor};
 use words::{Word, is_zero, less, same};
 
 // Whether a block is one piece, with these answers.
-#[derive(Drop)]
+#[derive(Clone, Copy)]
 enum Shape {
     Piece(u16, u16),
     Mixed,
@@ -23,7 +23,7 @@ enum Shape {
 
 // The parts of a block that are swept: blocks of 2^k headers, one that starts at `low` and one at `high`, which may be the same
 // one. `known` is a difference.
-#[derive(Drop)]
+#[derive(Clone, Copy)]
 pub(crate) struct Parts {
     pub k: u32,
     pub low: Word,
@@ -32,7 +32,7 @@ pub(crate) struct Parts {
 }
 
 // The way that a block with a difference goes: it is one piece with these answers, or its parts are swept.
-#[derive(Drop)]
+#[derive(Clone, Copy)]
 pub(crate) enum Way {
     Piece(u16, u16),
     Parts(Parts),

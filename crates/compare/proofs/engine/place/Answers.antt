@@ -1,0 +1,6 @@
+use Rattle.words.proofs.WordLaws.{single-told}
+use borrow.Author.Rules.{rules}
+use Rattle.compare.proofs.engine.place.Goals as goal
+
+pub returns : goal.returns
+returns c = single-told _ c.requires c.single.ensures

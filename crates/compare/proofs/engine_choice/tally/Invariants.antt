@@ -1,0 +1,11 @@
+use lib.Count.{trailing_le}
+use Rattle.compare.proofs.EngineWords.{fewer}
+use native.Mathlib.Omega.{arith}
+use borrow.Author.Rules.{rules}
+use Rattle.compare.proofs.engine_choice.tally.Given as goal
+
+abbrev pub invariant-loop-some : goal.invariant-loop-some
+invariant-loop-some l = Unit {0}
+
+abbrev pub decreases-loop-some : goal.decreases-loop-some
+decreases-loop-some l = l.some

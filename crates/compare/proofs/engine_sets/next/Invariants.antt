@@ -1,0 +1,11 @@
+use lib.Count.{trailing_le}
+use Rattle.compare.proofs.EngineWords.{Sought, sought-start, sought-none, sought-more, sought-few, sought-after, sought-before, sought-found, sought-rest, some-place, fewer, not-zero}
+use native.Mathlib.Omega.{arith}
+use borrow.Author.Rules.{rules}
+use Rattle.compare.proofs.engine_sets.next.Given as goal
+
+abbrev pub invariant-loop-x : goal.invariant-loop-x
+invariant-loop-x l = Sought l.live l.from l.w l.x l.rest
+
+abbrev pub decreases-loop-x : goal.decreases-loop-x
+decreases-loop-x l = l.rest

@@ -1,0 +1,8 @@
+use mathlib.Core.Path.{refl}
+use mathlib.Core.Logic.{inl}
+use native.Mathlib.Omega.{arith}
+use borrow.Author.Rules.{rules}
+use Rattle.compare.proofs.engine_sets.start.Goals as goal
+
+pub returns : goal.returns
+returns c = record { next = 0; ahead = omega arith; upto = omega arith; here = inl (refl, omega arith) }

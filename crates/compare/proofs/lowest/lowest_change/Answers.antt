@@ -1,0 +1,42 @@
+use Prim.Native.Nat.{ℕ}
+use mathlib.Core.Path.{refl, ap, ◌∙◌}
+use mathlib.Core.Bool.{false≢true}
+use lib.Bits.{bit_or}
+use Rattle.words.specs.Halves.{num}
+use Rattle.words.proofs.WordLaws.{holds}
+use Rattle.rules.proofs.CheckLaws.{sound-narrow}
+use Rattle.compare.proofs.EngineMembers.{none-member}
+use Rattle.compare.proofs.EngineWhole.{sound-ready}
+use Rattle.compare.proofs.SearchLaws.{in-cares, in-values, in-few, start-valid, search-none, search-start, search-end}
+use borrow.Author.Rules.{rules}
+use Rattle.compare.proofs.lowest.lowest_change.Goals as goal
+
+pub read-requires : goal.read-requires
+read-requires c = in-cares _ _ _ _ _ c.requires.0 c.requires.1
+
+pub above-requires : goal.above-requires
+above-requires c = sound-narrow c.requires.0
+
+pub read-requires-2 : goal.read-requires-2
+read-requires-2 c = in-values _ _ _ _ _ c.requires.0 c.requires.1
+
+pub leave_out-requires : goal.leave_out-requires
+leave_out-requires c = (refl, in-few _ _ _ _ _ c.requires.0 c.requires.1)
+
+pub narrow-requires : goal.narrow-requires
+narrow-requires c = let R = (sound-ready _ _ _ _ c.requires.0) in (R.few, R.values, R.within, refl, none-member)
+
+pub narrow-requires-2 : goal.narrow-requires-2
+narrow-requires-2 c = let R = (sound-ready _ _ _ _ c.requires.0) in (R.few, R.values, R.within, refl, none-member)
+
+pub differs-found-requires : goal.differs-found-requires
+differs-found-requires c = ((sound-ready _ _ _ _ c.requires.0), (sound-ready _ _ _ _ c.requires.0), start-valid _ _ _ _ _ c.requires.0 c.requires.1 _ _ _ c.above.ensures (holds c.or.ensures ∙ ap (λ (x : ℕ). bit_or x (num c.above.result)) c.read.ensures) c.read-2.ensures, λ e. absurd (false≢true e))
+
+pub lowest-requires : goal.lowest-requires
+lowest-requires c = ((sound-ready _ _ _ _ c.requires.0), sound-narrow c.requires.0, search-start _ _ _ _ _ c.requires.0 c.requires.1 _ _ _ c.above.ensures (holds c.or.ensures ∙ ap (λ (x : ℕ). bit_or x (num c.above.result)) c.read.ensures) c.read-2.ensures _ _ _ c.leave_out.ensures c.narrow.ensures c.narrow-2.ensures _ c.differs-found.ensures _ _ c.in-At.is c.known_word.ensures.0 c.known_word.ensures.2)
+
+pub returns-in-At : goal.returns-in-At
+returns-in-At c = search-end _ _ _ _ _ c.requires.0 c.requires.1 _ _ _ c.above.ensures (holds c.or.ensures ∙ ap (λ (x : ℕ). bit_or x (num c.above.result)) c.read.ensures) c.read-2.ensures _ _ _ c.leave_out.ensures c.narrow.ensures c.narrow-2.ensures _ c.lowest.ensures
+
+pub returns-in-Nothing : goal.returns-in-Nothing
+returns-in-Nothing c = search-none _ _ _ _ _ c.requires.0 c.requires.1 _ _ _ c.above.ensures (holds c.or.ensures ∙ ap (λ (x : ℕ). bit_or x (num c.above.result)) c.read.ensures) c.read-2.ensures _ _ _ c.leave_out.ensures c.narrow.ensures c.narrow-2.ensures _ c.differs-found.ensures c.in-Nothing.is
