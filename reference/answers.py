@@ -9,7 +9,7 @@ import re
 import sys
 
 import model
-from model import Differs, Refused, Swap
+from model import Refused, Swap
 
 LARGEST_WORD = model.HALF**2 - 1
 MOST = 100000  # more numbers of a slice than this are not meant
@@ -264,17 +264,13 @@ def swap_said(call, *arguments):
     return "fine swap %d %s" % (swap.width, numbers_said(places))
 
 
-def answer_said(answer):
-    """An answer of a list for a header."""
-    return "none" if answer == model.NO_MATCH else str(answer)
-
-
 def runs_said(first, last, old, new):
     if not len(first) == len(last) == 2 * len(old) == 2 * len(new):
         slices = words_said(first), words_said(last), numbers_said(old), numbers_said(new)
         return " into first %s last %s old %s new %s" % slices
+    none = lambda x: "none" if x == model.NO_MATCH else str(x)
     runs = zip(model.words_of(first), model.words_of(last), old, new)
-    return " into [%s]" % ", ".join("%d %d %s %s" % (a, b, answer_said(o), answer_said(n)) for a, b, o, n in runs)
+    return " into [%s]" % ", ".join("%d %d %s %s" % (a, b, none(o), none(n)) for a, b, o, n in runs)
 
 
 def looked_up(*arguments):
@@ -294,19 +290,6 @@ def compared(results, call, *arguments):
     except Refused as refusal:
         text = "0 " + refused(refusal)
     return text + runs_said(*results)
-
-
-def accepted(*arguments):
-    """The verdict, and beside it a header and two answers: zeros, unless it is that answers differ."""
-    header, source, candidate = 0, 0, 0
-    try:
-        model.accept(*arguments)
-        text = "fine"
-    except Refused as refusal:
-        text = refused(refusal)
-        if isinstance(refusal, Differs):
-            header, source, candidate = refusal.header, refusal.source, refusal.candidate
-    return "%s header %d source %s candidate %s" % (text, header, answer_said(source), answer_said(candidate))
 
 
 # The calls. Each takes its arguments from the words, and answers as text. -----------------------------------------------
@@ -451,23 +434,12 @@ def compare(words):
     return lambda: compared(results, model.compare, width, old, new, start)
 
 
-def compare_plain(words):
-    width, old, new = words.width(), words.list("old"), words.list("new")
-    start, results = words.header("start"), words.runs()
-    return lambda: compared(results, model.compare_plain, width, old, new, start)
-
-
 def compare_outcomes(words):
     width = words.width()
     old, old_default = words.list("old"), words.default()
     new, new_default = words.list("new"), words.default()
     start, results = words.header("start"), words.runs()
     return lambda: compared(results, model.compare_outcomes, width, old, old_default, new, new_default, start)
-
-
-def accept(words):
-    width, source, candidate = words.width(), words.list("source"), words.list("candidate")
-    return lambda: accepted(width, source, candidate)
 
 
 def on_image(call):
@@ -626,8 +598,6 @@ CALLS = {
     "prune": prune,
     "compare": compare,
     "compare_outcomes": compare_outcomes,
-    "compare_plain": compare_plain,
-    "accept": accept,
     "check": on_image(model.check_image),
     "format": on_image(model.image_format),
     "width": on_image(model.image_width),

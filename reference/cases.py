@@ -21,11 +21,6 @@ BAD_FIELDS = [0, 0, 17, 17, 18, 31, 32, 33, 64, 255, 256, 65536, 2**31, 2**32 - 
 KNOWN_PORTS = [(1024, 65535), (0, 1023), (137, 139), (6881, 6889), (20, 21)]  # ranges that access lists have
 
 
-def lent(rules):
-    """Rules that are patterns with their decisions, as three slices."""
-    return slices_of([(model.care_word(text), model.value_word(text), decision) for text, decision in rules])
-
-
 # What is handed in, as text. ---------------------------------------------------------------------------------------------
 
 
@@ -92,12 +87,6 @@ class Maker:
         small, seam = self.pick(1, 2, 3, 4, 4, 5, 6, 8), self.random.randint(60, 68)
         return self.pick(small, small, small, seam, 64, 65, self.random.randint(100, 104), 127, 128, 128, self.random.randint(1, 128))
 
-    def plain_width(self):
-        """A width for the plain comparison: most often small, up to the greatest that it takes, or now and then one that it refuses."""
-        small, some = self.pick(1, 2, 3, 4, 4, 5, 6, 8), self.random.randint(7, model.PLAIN)
-        refused = self.pick(model.PLAIN + 1, model.PLAIN + 1, 14, 16, 64, 65, 128)
-        return self.pick(*[small] * 8, some, some, model.PLAIN, refused)
-
     def decision(self):
         return self.pick(0, 1, 1, 2, 2, 3, self.random.randrange(65535), 65534)
 
@@ -158,7 +147,7 @@ class Maker:
             else:
                 for digit in "01":
                     rules.insert(self.random.randint(0, k), (with_digit(digit), self.pick(decision, self.decision())))
-        return lent(rules)
+        return slices_of([(model.care_word(text), model.value_word(text), decision) for text, decision in rules])
 
     def rule(self, width):
         return words_and_decisions(*self.list_of(width, 1))[0]
@@ -448,7 +437,7 @@ class Maker:
         return run_marks(*self.numbers(2 * room, 2 * room, room, room))
 
 
-# The kinds. Each makes a case, or several in a line each. ------------------------------------------------------------------
+# The kinds. Each makes one case. -----------------------------------------------------------------------------------------
 
 
 def listed(make, most=12, percent=20):
@@ -588,16 +577,6 @@ def prune(make):
     return "prune %s into %s" % (text, make.pruned_marks(len(list[2])))
 
 
-def woven(width, list):
-    results = slices_of([(0, 0, 0)] * len(list[2]))
-    kept, _, _ = model.weave(width, *list, *results)
-    return slices_of(words_and_decisions(*results)[:kept])
-
-
-def pruned(width, list):
-    return lent(model.pruned(width, model.rules_of(width, *list)))
-
-
 def like(make, width, list):
     """A list that differs little from this one: a rule gone, two exchanged, one put in or changed; or its weave."""
     rules = words_and_decisions(*list)
@@ -613,7 +592,9 @@ def like(make, width, list):
         k = make.random.randrange(len(rules))
         rules[k] = rules[k][:2] + (make.decision(),)
     elif change == 4:
-        return woven(width, list)
+        results = slices_of([(0, 0, 0)] * len(rules))
+        kept, _, _ = model.weave(width, *list, *results)
+        rules = words_and_decisions(*results)[:kept]
     return slices_of(rules)
 
 
@@ -622,9 +603,10 @@ def closed(list, default):
     return slices_of(words_and_decisions(*list) + [(0, 0, default)])
 
 
-def two_sides(make, good):
+def two_sides(make):
     """A width, two lists with a default each, all as text, and a start. Now and then the one list has the other's default as its
     last rule."""
+    good = make.width()
     list_of, most = (make.prefix_list, 60) if make.chance(15) else (make.list_of, 12)
     old = list_of(good, make.some(most))
     new = like(make, good, old) if make.chance(60) else list_of(good, make.some(most))
@@ -643,104 +625,14 @@ def two_sides(make, good):
     return width, list_said(good, *old), default_text(old_default), list_said(good, *new), default_text(new_default), start
 
 
-def plain_sides(make, good):
-    """A width, two lists without defaults, a start and results, all as text."""
-    width, old, _, new, _, start = two_sides(make, good)
-    return "%s old %s new %s start %d into %s" % (width, old, new, start, make.run_marks())
-
-
 def compare(make):
-    return "compare " + plain_sides(make, make.width())
+    width, old, _, new, _, start = two_sides(make)
+    return "compare %s old %s new %s start %d into %s" % (width, old, new, start, make.run_marks())
 
 
 def compare_outcomes(make):
-    text = "compare_outcomes %s old %s default %s new %s default %s start %d" % two_sides(make, make.width())
+    text = "compare_outcomes %s old %s default %s new %s default %s start %d" % two_sides(make)
     return "%s into %s" % (text, make.run_marks())
-
-
-def compare_plain(make):
-    return "compare_plain " + plain_sides(make, make.plain_width())
-
-
-def both_comparisons(make):
-    """The same lists, start and results for the main comparison and for the plain one."""
-    text = plain_sides(make, make.plain_width())
-    return "compare %s\ncompare_plain %s" % (text, text)
-
-
-def squeezed(make, width, list):
-    """The list woven or pruned, or one after the other."""
-    for squeeze in make.pick([woven], [pruned], [woven, pruned], [pruned, woven]):
-        list = squeeze(width, list)
-    return list
-
-
-def exchanged(make, list):
-    """The list with two rules exchanged, which may stand apart; whether an answer changes is open."""
-    rules = words_and_decisions(*list)
-    if len(rules) > 1:
-        j, k = make.random.sample(range(len(rules)), 2)
-        rules[j], rules[k] = rules[k], rules[j]
-    return slices_of(rules)
-
-
-def one_place_else(make, width, list):
-    """The list with one of its patterns changed at a place, or left as it is."""
-    rules = model.rules_of(width, *list)
-    if rules:
-        k = make.random.randrange(len(rules))
-        rules[k] = make.near(rules[k][0]), rules[k][1]
-    return lent(rules)
-
-
-def one_header_else(make, width, list):
-    """The list with a rule for one header at its top: it is longer by one, and differs there or nowhere."""
-    rule = 2**width - 1, make.header(width, list), make.decision()
-    return slices_of([rule] + words_and_decisions(*list))
-
-
-def candidate_for(make, width, source, list_of):
-    """A squeezed list, now and then with a rule for one header more; the source with a small change; or another list that is made like it,
-    most often with as many rules."""
-    way = make.random.randrange(12)
-    if way < 4:
-        return squeezed(make, width, source)
-    if way < 6:
-        return one_header_else(make, width, squeezed(make, width, source))
-    if way < 8:
-        return exchanged(make, source)
-    if way < 9:
-        return one_place_else(make, width, source)
-    if way < 11:
-        return like(make, width, source)
-    count = make.pick(len(source[2]), len(source[2]), make.some())
-    return slices_of(words_and_decisions(*list_of(width, count))[:count])
-
-
-def longest(make, list):
-    """The list with rules of stars behind it: about as many as a list may have, or one too many."""
-    rules, count = words_and_decisions(*list), model.LONGEST + make.pick(-1, 0, 0, 1)
-    return slices_of(rules + [(0, 0, 0)] * (count - len(rules)))
-
-
-def accept(make):
-    """A source that can most often be squeezed, and a candidate. The model's comparison takes long where many rules cross, so these lists
-    are shorter than those of `prune`."""
-    width = make.width()
-    few = make.prunable_list, 6
-    list_of, most = make.pick(few, few, (make.list_of, 12), (make.prefix_list, 60))
-    source = list_of(width, make.some(most))
-    candidate = candidate_for(make, width, source, list_of)
-    if make.chance(2):
-        source = longest(make, source)
-    if make.chance(2):
-        candidate = longest(make, candidate)
-    if make.chance(8):
-        source = make.bad_list(width, source)
-    if make.chance(8):
-        candidate = make.bad_list(width, candidate)
-    text = "accept width %d source %s" % (make.any_width(width, 4), list_said(width, *source))
-    return "%s candidate %s" % (text, list_said(width, *candidate))
 
 
 def format_for(make, width):
@@ -1109,8 +1001,6 @@ KINDS = {
     "swaps": {"prefix_swap": prefix_swap, "lookup_swapped": lookup_swapped, "swap": swaps},
     "weaving": {"runs": runs, "weave": weave},
     "compare": {"comparison": compare, "compare_outcomes": compare_outcomes},
-    "plain": {"compare_plain": compare_plain, "both_comparisons": both_comparisons},
-    "acceptance": {"accept": accept},
     "pruning": {"needed_at": needed_at, "prune": prune, "prune_image": prune_image},
     "image": {"images": image, "write": write},
     "woven": {"weave_image": weave_image, "tally": tally},
@@ -1134,23 +1024,19 @@ def kinds_named(names):
     return chosen
 
 
-def with_answers(lines):
-    return [(case, answers.answer(case)) for case in lines.split("\n")]
-
-
 def main(seed, count, names):
     small = "--small" in names
     most = 1000 if small else 100000
     make, kinds = Maker(seed, small), kinds_named([name for name in names if name != "--small"])
     print("# Random cases: seed %d." % seed)
-    while count > 0:
+    for _ in range(count):
         kind = make.random.choice(kinds)
-        cases = with_answers(kind(make))
-        while any(len(case) + len(answer) >= most for case, answer in cases):
-            cases = with_answers(kind(make))
-        for case, answer in cases[:count]:
-            print("%s\n= %s" % (case, answer))
-        count -= len(cases)
+        case = kind(make)
+        answer = answers.answer(case)
+        while len(case) + len(answer) >= most:
+            case = kind(make)
+            answer = answers.answer(case)
+        print("%s\n= %s" % (case, answer))
 
 
 if __name__ == "__main__":

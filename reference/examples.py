@@ -6,7 +6,7 @@ import sys
 
 import cases
 import model
-from model import Differs, Refused
+from model import Refused
 
 
 def words(rules):
@@ -74,22 +74,6 @@ def runs_found(room, call, *arguments):
 
 def compared(width, old, new, start=0, room=10):
     return runs_found(room, model.compare, width, slices(old), slices(new), start)
-
-
-def plainly(width, old, new, start=0, room=10):
-    return runs_found(room, model.compare_plain, width, slices(old), slices(new), start)
-
-
-def accepted(width, source, candidate):
-    """What is said of a candidate, both lists written with patterns: None where it is taken, else the refusal; that of answers which
-    differ is its number, the header, and both answers."""
-    try:
-        model.accept(width, slices(source), slices(candidate))
-    except Differs as differs:
-        return differs.number, differs.header, differs.source, differs.candidate
-    except Refused as refused:
-        return refused.number, refused.list, refused.rule
-    return None
 
 
 def outcomes(width, old, old_default, new, new_default, start=0, room=10):
@@ -166,25 +150,6 @@ def examples():
         yield compared(width, [("*" * width, 1)], []) == ([(0, 2**width - 1, 1, none)], None)
         last = [("*" * (width - 1) + "1", 5)]
         yield compared(width, last, last) == ([], None)
-    yield plainly(3, old, new) == (runs, None) and plainly(3, old, new, room=1) == (runs[:1], 5)
-    yield plainly(3, old, new, start=3)[0][0] == (3, 3, 1, none) and refusal(plainly, 3, old, new, 8) == (6, 0, 0)
-    yield plainly(2, [("00", 1), ("01", 1)], []) == ([(0, 1, 1, none)], None)
-    yield plainly(12, [("*" * 12, 1)], []) == ([(0, 4095, 1, none)], None)
-    yield plainly(12, [], [("1" * 12, 1)]) == plainly(12, [], [("1" * 12, 1)], start=4095) == ([(4095, 4095, none, 1)], None)
-    yield refusal(plainly, 12, [("*", none)], new, 2**12, 0) == (5, 1, 1) and refusal(plainly, 12, old, new, 2**12, 0) == (6, 0, 0)
-    for width in (0, 13, 64, 128, 129):
-        yield refusal(plainly, width, [("*", none)], new, 2**128 - 1, 0) == (1, 0, 0)
-    halves, whole = [("00*", 1), ("01*", 1)], [("0**", 1)]
-    yield accepted(3, halves, whole) is None and accepted(3, whole, halves) == (27, 0, 0) and accepted(3, [], []) is None
-    yield accepted(3, halves, [("0*0", 1)]) == (28, 1, 1, none) and accepted(3, halves, [("***", 1)]) == (28, 4, none, 1)
-    yield accepted(3, halves, [("01*", 1), ("00*", 1)]) is None and accepted(3, halves, [("01*", 1), ("00*", 2)]) == (28, 0, 1, 2)
-    yield accepted(3, whole, [("1**", 1), ("1**", 2)]) == (27, 0, 0) and accepted(3, whole, [("1**", 1), ("1**", none)]) == (5, 2, 2)
-    yield accepted(3, [("0**", none)], [("1**", none)]) == (5, 1, 1) and accepted(0, halves, whole) == accepted(129, [], []) == (1, 0, 0)
-    for width in (1, 3, 10, 11, 64, 65, 128):
-        stars = [("*" * width, 1)] * 2
-        first, last, highest = [("0" * width, 2)], [("1" * width, 2)], 2**width - 1
-        yield accepted(width, stars, first + stars[1:]) == (28, 0, 1, 2) and accepted(width, stars, stars[1:]) is None
-        yield accepted(width, stars, last + stars[1:]) == (28, highest, 1, 2) and accepted(width, last, []) == (28, highest, 2, none)
     yield outcomes(3, old, None, new, None) == (runs, None) and outcomes(3, old, 1, new, 1) == ([], None)
     yield outcomes(3, old, 1, new, None) == ([(2, 4, 1, none), (6, 6, 1, none)], None)
     yield outcomes(3, old, None, new, 1) == ([(4, 7, none, 1)], None)
@@ -323,61 +288,6 @@ def wide_pruning_walks():
             yield model.lowest_by_blocks(rules, k) == (None if run is None else run[0])
 
 
-def comparison_walks():
-    """Random lists up to the greatest width of the plain comparison: both comparisons find the same runs, from any start on and with any
-    room, and the first of them starts at the first difference."""
-    make = cases.Maker(5)
-    for _ in range(400):
-        width = make.pick(model.PLAIN - 1, model.PLAIN, make.random.randint(1, model.PLAIN))
-        old = make.list_of(width, make.some(8))
-        new = make.pick(cases.like(make, width, old), make.list_of(width, make.some(8)))
-        start, room = make.pick(0, make.header(width, old)), make.pick(1, 2, 10)
-        found = runs_found(room, model.compare_plain, width, old, new, start)
-        yield found == runs_found(room, model.compare, width, old, new, start)
-        rules = model.rules_of(width, *old), model.rules_of(width, *new)
-        run = next(model.plain_differences(width, *rules, 0), None)
-        yield model.first_difference(width, *rules) == (None if run is None else (run[0], *run[2:]))
-
-
-def accepted_by_tables(width, source, candidate):
-    """What has to be said of a candidate that is valid, by tables of every header's answer."""
-    if len(candidate) > len(source):
-        return 27, 0, 0
-    before, after = answers(width, source), answers(width, candidate)
-    header = first_change(before, after)
-    return None if header is None else (28, header, before[header], after[header])
-
-
-def acceptance_walks():
-    """Random sources up to width 8, each with a candidate of any kind, by tables of every header's answer. What weaving and pruning make of
-    a source is taken."""
-    make = cases.Maker(6)
-    for _ in range(1000):
-        width, list_of = make.random.randint(1, 8), make.pick(make.list_of, make.prunable_list)
-        source = list_of(width, make.some(10))
-        rules = model.rules_of(width, *source)
-        candidate = model.rules_of(width, *cases.candidate_for(make, width, source, list_of))
-        yield accepted(width, rules, candidate) == accepted_by_tables(width, rules, candidate)
-        yield accepted(width, rules, woven(width, rules)[0]) is accepted(width, rules, pruned(width, rules)[0]) is None
-
-
-def wide_acceptance_walks():
-    """Random sources of any width: what weaving and pruning make of them is taken, also one after the other; and at the header that is
-    shown for any other candidate the answers are those that are shown."""
-    make = cases.Maker(7)
-    for _ in range(300):
-        width, list_of = make.width(), make.pick(make.list_of, make.prunable_list, make.prefix_list)
-        source = list_of(width, make.some(6))
-        rules = model.rules_of(width, *source)
-        left, kept = woven(width, rules)[0], pruned(width, rules)[0]
-        yield accepted(width, rules, left) is accepted(width, rules, kept) is None
-        yield accepted(width, rules, pruned(width, left)[0]) is accepted(width, rules, woven(width, kept)[0]) is None
-        candidate = model.rules_of(width, *cases.candidate_for(make, width, source, list_of))
-        said = accepted(width, rules, candidate)
-        if said is not None and said[0] == 28:
-            yield said[2] != said[3] and model.both_answers(width, rules, candidate, said[1]) == said[2:]
-
-
 def every_prefix(field):
     """All prefixes of a field, each with its next shorter one; that of the whole field is None."""
     yield "*" * field, None
@@ -434,7 +344,6 @@ def folders(top):
 
 if __name__ == "__main__":
     held = list(examples()) + list(walks()) + list(pruning_walks()) + list(wide_pruning_walks()) + list(prefix_walks())
-    held += list(comparison_walks()) + list(acceptance_walks()) + list(wide_acceptance_walks())
     if len(sys.argv) > 1:
         held += folders(sys.argv[1])
     print("%d hold, %d do not" % (held.count(True), held.count(False)))

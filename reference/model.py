@@ -32,15 +32,6 @@ class Refused(Exception):
         self.number, self.list, self.rule = number, list, rule
 
 
-class Differs(Refused):
-    """Refusal 28 of a candidate, and what stands beside it: the lowest header on which the answers differ, the source's answer and the
-    candidate's."""
-
-    def __init__(self, header, source, candidate):
-        super().__init__(28)
-        self.header, self.source, self.candidate = header, source, candidate
-
-
 # Slices of words. -------------------------------------------------------------------------------------------------------
 
 
@@ -608,7 +599,6 @@ def weave(width, care, value, decision, out_care, out_value, out_decision):
 # The comparison. --------------------------------------------------------------------------------------------------------
 
 BY_HEADERS = 10  # up to this width every header is looked up
-PLAIN = 12  # the greatest width that the plain comparison takes
 
 
 def side(width, slices, default):
@@ -709,8 +699,9 @@ def differences(width, old, new, start):
         yield run
 
 
-def check_comparison(width, old, old_default, new, new_default, start, first, last, old_outcome, new_outcome):
-    """Both lists are checked before the defaults, and the results last: the outcomes have one number to a run, and the headers two."""
+def compare_outcomes(width, old, old_default, new, new_default, start, first, last, old_outcome, new_outcome):
+    """The number of runs put into the results, and the first header of the next run, or None where there is none. The outcomes
+    have one number to a run, and the headers two. Each list has a default, or None. Both lists are checked before the defaults."""
     check_width(width)
     check_bare_list(width, 1, *old)
     check_bare_list(width, 2, *new)
@@ -722,13 +713,9 @@ def check_comparison(width, old, old_default, new, new_default, start, first, la
         raise Refused(2)
     if room < 1:
         raise Refused(7)
-
-
-def put_runs(runs, first, last, old_outcome, new_outcome):
-    """The number of runs put into the results, and the first header of the next run, or None where there is none."""
     count = 0
-    for run in runs:
-        if count == len(old_outcome):
+    for run in differences(width, side(width, old, old_default), side(width, new, new_default), start):
+        if count == room:
             return count, run[0]
         put_words(first, count, [run[0]])
         put_words(last, count, [run[1]])
@@ -737,70 +724,9 @@ def put_runs(runs, first, last, old_outcome, new_outcome):
     return count, None
 
 
-def compare_outcomes(width, old, old_default, new, new_default, start, *results):
-    """The runs of differences of two lists, each of which has a default, or None."""
-    check_comparison(width, old, old_default, new, new_default, start, *results)
-    return put_runs(differences(width, side(width, old, old_default), side(width, new, new_default), start), *results)
-
-
 def compare(width, old, new, start, *results):
     """The same where neither side has a default: the outcomes are the lists' answers."""
     return compare_outcomes(width, old, None, new, None, start, *results)
-
-
-# The plain comparison, and accepting a candidate. -----------------------------------------------------------------------
-
-
-def both_answers(width, old, new, h):
-    """What two lists answer for a header."""
-    header = bits(width, h)
-    return answer(old, header), answer(new, header)
-
-
-def plain_differences(width, old, new, start):
-    """The runs of differences of two lists, by looking up one header after the other: a run starts at a header with different answers,
-    and goes on as long as the next header has the same two."""
-    h = start
-    while h < 2**width:
-        first, both = h, both_answers(width, old, new, h)
-        h += 1
-        if both[0] != both[1]:
-            while h < 2**width and both_answers(width, old, new, h) == both:
-                h += 1
-            yield first, h - 1, *both
-
-
-def compare_plain(width, old, new, start, *results):
-    """As compare, up to the width PLAIN; a greater one is refused first of all."""
-    if width > PLAIN:
-        raise Refused(1)
-    check_comparison(width, old, None, new, None, start, *results)
-    return put_runs(plain_differences(width, rules_of(width, *old), rules_of(width, *new), start), *results)
-
-
-def first_difference(width, source, candidate):
-    """The lowest header on which two lists answer differently, and both answers; None where they answer alike. Every header is looked up;
-    above the width BY_HEADERS it is where the first run of the comparison starts."""
-    if width > BY_HEADERS:
-        run = next(differences(width, (source, NO_MATCH), (candidate, NO_MATCH), 0), None)
-        return run and (run[0], *run[2:])
-    for h in range(2**width):
-        a, b = both_answers(width, source, candidate, h)
-        if a != b:
-            return h, a, b
-    return None
-
-
-def accept(width, source, candidate):
-    """Takes a candidate for a source: 27 where it has more rules, and then 28 where an answer differs."""
-    check_width(width)
-    check_bare_list(width, 1, *source)
-    check_bare_list(width, 2, *candidate)
-    if len(candidate[2]) > len(source[2]):
-        raise Refused(27)
-    found = first_difference(width, rules_of(width, *source), rules_of(width, *candidate))
-    if found:
-        raise Differs(*found)
 
 
 # Pruning. ---------------------------------------------------------------------------------------------------------------

@@ -1,8 +1,8 @@
 // Which call a case makes, by the name that it starts with.
 use crate::source::{answer_at, named_if, part, word_end, word_start};
 use crate::{
-    accept_calls, compare_calls, five_fields_calls, given, image_calls, names, ranges_calls,
-    rules_calls, show, slices, swaps_calls, weaving_calls,
+    compare_calls, five_fields_calls, given, image_calls, names, ranges_calls, rules_calls, show,
+    slices, swaps_calls, weaving_calls,
 };
 
 // What a case that starts with no name of a call answers.
@@ -62,8 +62,7 @@ fn head_of(call: usize, s: &[u8], from: usize) -> Head {
 fn on_list(call: usize, s: &[u8], from: usize, w: &[u8], to: usize) -> usize {
     let h = head_of(call, s, from);
     let name = match call {
-        names::COMPARE..=names::COMPARE_PLAIN => names::OLD,
-        names::ACCEPT => names::SOURCE,
+        names::COMPARE | names::COMPARE_OUTCOMES => names::OLD,
         _ => names::LIST,
     };
     let l = given::read_list(s, h.at, name);
@@ -106,10 +105,9 @@ fn with_list(
         names::WRITE => {
             image_calls::write(s, at, h.format, h.width, care, value, decision, w, to)
         }
-        names::COMPARE..=names::COMPARE_PLAIN => {
+        names::COMPARE | names::COMPARE_OUTCOMES => {
             compare_calls::on_list(call, s, at, h.width, care, value, decision, w, to)
         }
-        names::ACCEPT => accept_calls::accept(s, at, h.width, care, value, decision, w, to),
         names::LOOKUP..=names::LOOKUP_SWAPPED => {
             rules_calls::lookups(call, s, at, h.width, care, value, decision, w, to)
         }

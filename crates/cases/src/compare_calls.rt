@@ -1,4 +1,4 @@
-// The comparison of two lists: the crates `compare` and `plain_compare`, and of lists of two images: the crate `image_compare`.
+// The comparison of two lists: the crate `compare`, and of lists of two images: the crate `image_compare`.
 use crate::runs::Runs;
 use crate::source::{after, answer_at, header, is_next, named_if, number};
 use crate::{given, names, runs, show, slices};
@@ -133,12 +133,10 @@ fn compare_lists(
     let l = slices::numbers_mut(&mut last, r.lasts);
     let o = slices::shorts_mut(&mut old, r.olds);
     let n = slices::shorts_mut(&mut new, r.news);
-    let c = match call {
-        names::COMPARE => compare::compare(width, oc, ov, od, nc, nv, nd, start, f, l, o, n),
-        names::COMPARE_PLAIN => {
-            plain_compare::compare_plain(width, oc, ov, od, nc, nv, nd, start, f, l, o, n)
-        }
-        _ => compare::compare_outcomes(
+    let c = if call == names::COMPARE {
+        compare::compare(width, oc, ov, od, nc, nv, nd, start, f, l, o, n)
+    } else {
+        compare::compare_outcomes(
             width,
             oc,
             ov,
@@ -153,7 +151,7 @@ fn compare_lists(
             l,
             o,
             n,
-        ),
+        )
     };
     r.first = first;
     r.last = last;

@@ -1,6 +1,5 @@
 // Tries the libraries on the cases in text files, whose names are the program's arguments. docs/CASES.md has the form of a case. A
 // case with an answer beside it is held to that; of one without, the answer is written. Each file ends with a line that counts.
-mod accept_calls;
 mod calls;
 mod compare_calls;
 mod files;

@@ -80,12 +80,6 @@ pub const NOWHERE: usize = 32;
 
 pub const HEADERS: usize = 33;
 
-pub const HEADER: usize = 34;
-
-pub const SOURCE: usize = 35;
-
-pub const CANDIDATE: usize = 36;
-
 // The position at which answers are written.
 pub const ALOUD: usize = 4398046511104;
 
@@ -109,7 +103,7 @@ fn say(w: &[u8], at: usize, said: &[u8]) -> usize {
 
 pub fn phrase(w: &[u8], at: usize, k: usize) -> usize {
     let all: &[u8] =
-        b"fine|none|yes|no|refused | at | |, |[|]|/| finished| more from |kept | dropped | merged | into |list | swap |care | value | decision |first | last | old | new |id | rules | times |half | rule |at |nowhere| headers | header | source | candidate ";
+        b"fine|none|yes|no|refused | at | |, |[|]|/| finished| more from |kept | dropped | merged | into |list | swap |care | value | decision |first | last | old | new |id | rules | times |half | rule |at |nowhere| headers ";
     say(w, at, phrase_of(all, k))
 }
 
@@ -142,7 +136,7 @@ pub fn verdict(w: &[u8], at: usize, v: Verdict) -> usize {
 }
 
 // An answer of a list: 65,535 stands for no match.
-pub fn answer(w: &[u8], at: usize, n: u16) -> usize {
+fn answer(w: &[u8], at: usize, n: u16) -> usize {
     match n {
         65535 => phrase(w, at, NONE),
         _ => number(w, at, n as u64),

@@ -3,7 +3,7 @@ use Rattle.std.specs.Prelude.{ℕ, ◌-◌, List, [], ◌∷◌, Bool, true, fal
 use Rattle.command_line.specs.declared.Command.{Command}
 use Rattle.command_line.specs.declared.Wanted.{Wanted}
 
--- The names, byte by byte: check, show, lookup, runs, weave, prune, compare, accept, prefixes, and defaults.
+-- The names, byte by byte: check, show, lookup, runs, weave, prune, compare, prefixes, and defaults.
 abbrev pub check_name : List ℕ
 check_name = 99 ∷ 104 ∷ 101 ∷ 99 ∷ 107 ∷ []
 
@@ -24,9 +24,6 @@ prune_name = 112 ∷ 114 ∷ 117 ∷ 110 ∷ 101 ∷ []
 
 abbrev pub compare_name : List ℕ
 compare_name = 99 ∷ 111 ∷ 109 ∷ 112 ∷ 97 ∷ 114 ∷ 101 ∷ []
-
-abbrev pub accept_name : List ℕ
-accept_name = 97 ∷ 99 ∷ 99 ∷ 101 ∷ 112 ∷ 116 ∷ []
 
 abbrev pub prefixes_name : List ℕ
 prefixes_name = 112 ∷ 114 ∷ 101 ∷ 102 ∷ 105 ∷ 120 ∷ 101 ∷ 115 ∷ []
@@ -49,16 +46,7 @@ command_if false a b = b
 unfoldable pub asks : (word : List ℕ) (words : ℕ) (name : List ℕ) (wanted : ℕ) → Bool
 asks word words name wanted = eqb words wanted && same_bytes word name
 
--- The command on two image files that a command line without defaults asks for: the usage where it is no other.
-unfoldable pub two_file_command_of : (word : List ℕ) (words : ℕ) → Command
-two_file_command_of word words =
-    command_if (asks word words compare_name 4) Command.Compare
-    (command_if (asks word words compare_name 5) Command.CompareId
-    (command_if (asks word words compare_name 6) Command.CompareFrom
-    (command_if (asks word words accept_name 4) Command.Accept
-    (command_if (asks word words accept_name 5) Command.AcceptId Command.Usage))))
-
--- The same with the commands on one image file.
+-- The command on image files that a command line without defaults asks for: the usage where it is no other.
 unfoldable pub file_command_of : (word : List ℕ) (words : ℕ) → Command
 file_command_of word words =
     command_if (asks word words check_name 3) Command.Check
@@ -66,7 +54,10 @@ file_command_of word words =
     (command_if (asks word words lookup_name 5) Command.Lookup
     (command_if (asks word words runs_name 4) Command.Runs
     (command_if (asks word words weave_name 4) Command.Weave
-    (command_if (asks word words prune_name 4) Command.Prune (two_file_command_of word words))))))
+    (command_if (asks word words prune_name 4) Command.Prune
+    (command_if (asks word words compare_name 4) Command.Compare
+    (command_if (asks word words compare_name 5) Command.CompareId
+    (command_if (asks word words compare_name 6) Command.CompareFrom Command.Usage))))))))
 
 -- The same with the command that takes no file.
 unfoldable pub command_of : (word : List ℕ) (words : ℕ) → Command

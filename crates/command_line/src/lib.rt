@@ -1,7 +1,7 @@
 // Which command the words of the tool's command line ask for.
 #![tactic(auto)]
 ghost use Rattle.std.specs.Prelude.{◌≡◌};
-ghost use Rattle.command_line.specs.Words.{asks, two_file_command_of, file_command_of, command_of, names_defaults, wanted_of};
+ghost use Rattle.command_line.specs.Words.{asks, file_command_of, command_of, names_defaults, wanted_of};
 
 // What a command line can ask for.
 #[derive(Clone, Copy)]
@@ -15,8 +15,6 @@ pub enum Command {
     Compare,
     CompareId,
     CompareFrom,
-    Accept,
-    AcceptId,
     Prefixes,
     Usage,
 }
@@ -40,30 +38,8 @@ fn is(word: &[u8], words: usize, name: &[u8], wanted: usize) -> bool
     false
 }
 
-// The command on two image files that a command line without defaults asks for: its first word, and how many words there are with the
-// tool's own name.
-fn two_file_command_of(word: &[u8], words: usize) -> Command
-    ensures { result ≡ two_file_command_of word.now words }
-{
-    if is(word, words, b"compare", 4) {
-        return Command::Compare;
-    }
-    if is(word, words, b"compare", 5) {
-        return Command::CompareId;
-    }
-    if is(word, words, b"compare", 6) {
-        return Command::CompareFrom;
-    }
-    if is(word, words, b"accept", 4) {
-        return Command::Accept;
-    }
-    if is(word, words, b"accept", 5) {
-        return Command::AcceptId;
-    }
-    Command::Usage
-}
-
-// The same with the commands on one image file.
+// The command on image files that a command line without defaults asks for: its first word, and how many words there are with the tool's
+// own name.
 fn file_command_of(word: &[u8], words: usize) -> Command
     ensures { result ≡ file_command_of word.now words }
 {
@@ -85,7 +61,16 @@ fn file_command_of(word: &[u8], words: usize) -> Command
     if is(word, words, b"prune", 4) {
         return Command::Prune;
     }
-    two_file_command_of(word, words)
+    if is(word, words, b"compare", 4) {
+        return Command::Compare;
+    }
+    if is(word, words, b"compare", 5) {
+        return Command::CompareId;
+    }
+    if is(word, words, b"compare", 6) {
+        return Command::CompareFrom;
+    }
+    Command::Usage
 }
 
 // The same with the command that takes no file.

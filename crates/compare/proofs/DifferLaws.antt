@@ -8,7 +8,8 @@ use native.Mathlib.Omega.{arith}
 use lib.Dec.{eqb}
 use borrow.Author.Tests.{eqb-true, eqb-false, eq-eqb, ne_eqb, not-false}
 use Rattle.words.proofs.Tests.{split, not-true}
-use Rattle.compare.specs.Differing.{differ_on, lowest_from, lowest_difference, AlikeEverywhere, LowestDifference}
+use Rattle.compare.specs.Needed.{lowest_from}
+use Rattle.compare.specs.Differing.{differ_on, lowest_difference, AlikeEverywhere, LowestDifference}
 
 -- ---- the first number for which a test holds
 

@@ -1,14 +1,10 @@
 -- The lowest header on which two answers differ (requests 12 and 13). As in `Runs`, an answer is a number for each header.
 use Rattle.std.specs.Prelude.{ℕ, zero, suc, ◌^◌, ◌<◌, ◌≡◌, ◌≢◌, List, [], ◌∷◌, Bool, not, cond, eqb}
+use Rattle.compare.specs.Needed.{lowest_from}
 
 -- Whether two answers differ on a header.
 unfoldable pub differ_on : (f g : ℕ → ℕ) → (h : ℕ) → Bool
 differ_on f g h = not (eqb (f h) (g h))
-
--- The first of n numbers from h on for which the test holds; none where it holds for none of them.
-unfoldable pub lowest_from : (ℕ → Bool) → (n h : ℕ) → List ℕ
-lowest_from test zero h = []
-lowest_from test (suc n) h = cond (test h) (h ∷ []) (lowest_from test n (suc h))
 
 -- The lowest header of the width on which they differ; none where they differ on no header.
 unfoldable pub lowest_difference : (w : ℕ) → (f g : ℕ → ℕ) → List ℕ

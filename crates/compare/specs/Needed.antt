@@ -1,5 +1,5 @@
 -- Where a list needs a rule: the lowest header whose answer changes when the rule is taken away (request 12).
-use Rattle.std.specs.Prelude.{ℕ, List, [], ◌∷◌}
+use Rattle.std.specs.Prelude.{ℕ, zero, suc, ◌^◌, ◌<◌, ◌≡◌, ◌≢◌, List, [], ◌∷◌, Bool, not, cond, eqb}
 use Rattle.words.specs.Slices.{halves_of}
 use Rattle.rules.specs.Rule.{Rule}
 use Rattle.rules.specs.Rules.{answer}
@@ -8,22 +8,31 @@ use Rattle.rules.specs.Slices.{rules_of}
 use Rattle.rules.specs.Replies.{Reply, Gives, ◌then◌, refusal_reply}
 use Rattle.rules.specs.Calls.{check_list}
 use Rattle.compare.specs.declared.Needed.{Needed}
-use Rattle.compare.specs.Differing.{lowest_difference, AlikeEverywhere, LowestDifference}
 
--- The lowest header of the width that gets another answer when the rule at position k, counted from 0, is taken from the list; none where
--- no header does.
+-- Whether a header gets another answer when the rule at position k, counted from 0, is taken from the list.
+unfoldable pub changes : List Rule → (k h : ℕ) → Bool
+changes rs k h = not (eqb (answer rs h) (answer (except k rs) h))
+
+-- The first of n numbers from h on for which the test holds; none where it holds for none of them.
+unfoldable pub lowest_from : (ℕ → Bool) → (n h : ℕ) → List ℕ
+lowest_from f zero h = []
+lowest_from f (suc n) h = cond (f h) (h ∷ []) (lowest_from f n (suc h))
+
+-- The lowest header of the width that gets another answer without the rule at position k; none where no header does.
 unfoldable pub lowest_change : (w : ℕ) → List Rule → (k : ℕ) → List ℕ
-lowest_change w rs k = lowest_difference w (answer (except k rs)) (answer rs)
+lowest_change w rs k = lowest_from (changes rs k) (2 ^ w) 0
 
 -- The rule at position k does nothing: every header of the width gets the same answer without it. That there is no lowest header just then
 -- is the law `nothing-exactly`.
 abbrev pub DoesNothing : (w : ℕ) → List Rule → (k : ℕ) → Type 0
-DoesNothing w rs k = AlikeEverywhere w (answer (except k rs)) (answer rs)
+DoesNothing w rs k = (h : ℕ) → h < 2 ^ w → answer (except k rs) h ≡ answer rs h
 
 -- The header h gets another answer without the rule at position k, and no lower one does. That the lowest header is just this one is the
 -- law `lowest-exactly`.
-abbrev pub LowestChange : (w : ℕ) → List Rule → (k h : ℕ) → Type 0
-LowestChange w rs k h = LowestDifference w (answer (except k rs)) (answer rs) h
+pub record LowestChange (w : ℕ) (rs : List Rule) (k h : ℕ) : Type 0 where
+  pub below : h < 2 ^ w
+  pub differ : answer (except k rs) h ≢ answer rs h
+  pub lowest : (x : ℕ) → x < h → answer (except k rs) x ≡ answer rs x
 
 -- ---- the call
 

@@ -34,7 +34,7 @@ pub(crate) fn run(at: usize, words: usize) {
     match command {
         Command::Lookup => with_numbers(at, wanted, 3, 4),
         Command::Runs => with_numbers(at, wanted, 3, 0),
-        Command::CompareId | Command::AcceptId => with_numbers(at, wanted, 4, 0),
+        Command::CompareId => with_numbers(at, wanted, 4, 0),
         Command::CompareFrom => with_numbers(at, wanted, 4, 5),
         Command::Prefixes => fields::prefixes(at),
         Command::Usage => lines::usage(),

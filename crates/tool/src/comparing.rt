@@ -1,11 +1,21 @@
 // Comparing two images: the lines are those of `run_lines`, and a refusal is said here.
 use crate::commands::Request;
-use crate::{lines, lists};
+use crate::files::Held;
+use crate::{files, lines, lists, slices};
 use command_line::Command;
 use compare::{Compared, Ending};
 
+// The new image is the file that word 3 after place `at` names.
+pub(crate) fn on_new_file(at: usize, old: &[u8], request: Request) {
+    let mut space = files::space();
+    let held = files::load_word(at, 3, &mut space);
+    if let Held::Bytes(n) = held {
+        compare(old, slices::bytes(&space, n), request);
+    }
+}
+
 // The lists with the id that was named, or the first lists where none was.
-pub(crate) fn compare(old: &[u8], new: &[u8], request: Request) {
+fn compare(old: &[u8], new: &[u8], request: Request) {
     let command = request.command;
     let a = request.old_default;
     let b = request.new_default;

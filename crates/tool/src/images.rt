@@ -1,10 +1,10 @@
-// A command on image files: they are read whole, and then what was asked for is done with their bytes.
+// A command on image files: the first file is read whole, and then what was asked for is done with its bytes.
 use crate::commands::Request;
 use crate::files::Held;
-use crate::{accepting, comparing, files, lists, questions, slices, squeezing};
+use crate::{comparing, files, lists, questions, slices, squeezing};
 use command_line::Command;
 
-// The first image is the file that word 2 after place `at` names.
+// The image is the file that word 2 after place `at` names.
 pub(crate) fn on_file(at: usize, request: Request) {
     let mut space = files::space();
     let held = files::load_word(at, 2, &mut space);
@@ -19,23 +19,6 @@ fn on_image(at: usize, image: &[u8], request: Request) {
         Command::Check | Command::Show => lists::tell(image, request),
         Command::Lookup | Command::Runs => questions::ask_by_id(image, request),
         Command::Weave | Command::Prune => squeezing::squeeze(at, image, request),
-        _ => on_second_file(at, image, request),
-    }
-}
-
-// The second image is the file that word 3 after place `at` names.
-fn on_second_file(at: usize, first: &[u8], request: Request) {
-    let mut space = files::space();
-    let held = files::load_word(at, 3, &mut space);
-    if let Held::Bytes(n) = held {
-        on_two_images(first, slices::bytes(&space, n), request);
-    }
-}
-
-fn on_two_images(first: &[u8], second: &[u8], request: Request) {
-    let command = request.command;
-    match command {
-        Command::Accept | Command::AcceptId => accepting::accept(first, second, request),
-        _ => comparing::compare(first, second, request),
+        _ => comparing::on_new_file(at, image, request),
     }
 }

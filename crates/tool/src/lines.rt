@@ -17,7 +17,7 @@ pub(crate) fn number(n: usize) {
 }
 
 // A number of up to 39 digits.
-pub(crate) fn word(n: Word) {
+fn word(n: Word) {
     let mut digits = [0u8; 39];
     let count = text::write_number(n, &mut digits);
     say(slices::bytes(&digits, count));
@@ -60,16 +60,6 @@ pub(crate) fn counted(n: usize, what: &[u8]) {
 pub(crate) fn named(name: &[u8], n: usize) {
     say(name);
     last(n);
-}
-
-// Whose answer it is, and the answer: 65,535 stands for no match.
-pub(crate) fn answer(whose: &[u8], a: u16) {
-    say(whose);
-    if a == 65535 {
-        say(b"none");
-    } else {
-        number(a as usize);
-    }
 }
 
 // Which list is spoken of.
@@ -117,6 +107,6 @@ pub(crate) fn trouble(what: &[u8], word: &[u8]) {
 
 pub(crate) fn usage() {
     say(
-        b"usage:\n  ./myrhjord check FILE\n  ./myrhjord show FILE\n  ./myrhjord lookup FILE ID HEADER\n  ./myrhjord runs FILE ID\n  ./myrhjord weave FILE OUT\n  ./myrhjord prune FILE OUT\n  ./myrhjord compare OLD NEW [ID [START]] [defaults A B]\n  ./myrhjord accept SOURCE CANDIDATE [ID]\n  ./myrhjord prefixes BITS LOW HIGH\nNumbers are decimal, or hexadecimal after 0x.\nA and B are what the old and the new list decide where no rule matches: a number, or none.\n",
+        b"usage:\n  ./myrhjord check FILE\n  ./myrhjord show FILE\n  ./myrhjord lookup FILE ID HEADER\n  ./myrhjord runs FILE ID\n  ./myrhjord weave FILE OUT\n  ./myrhjord prune FILE OUT\n  ./myrhjord compare OLD NEW [ID [START]] [defaults A B]\n  ./myrhjord prefixes BITS LOW HIGH\nNumbers are decimal, or hexadecimal after 0x.\nA and B are what the old and the new list decide where no rule matches: a number, or none.\n",
     );
 }

@@ -1,6 +1,5 @@
 // The tool for people who hold an image file in their hands: a thin command line over the libraries. What it writes goes to
 // standard output, in plain words.
-mod accepting;
 mod commands;
 mod comparing;
 mod fields;

@@ -9,7 +9,6 @@ use Rattle.cases.proofs.slices.numbers_mut.Reads as numbers-mut-reads
 use Rattle.cases.proofs.slices.shorts_mut.Reads as shorts-mut-reads
 use Rattle.compare.proofs.compare.Reads as compare-reads
 use Rattle.compare.proofs.compare_outcomes.Reads as compare-outcomes-reads
-use Rattle.plain_compare.proofs.compare_plain.Reads as compare-plain-reads
 
 slice-aggregate-numbers-mut : tie.Need-slice-aggregate-numbers-mut
 slice-aggregate-numbers-mut c = search rules
@@ -38,9 +37,6 @@ shorts-mut-requires-2 c κs = search rules
 compare-requires : tie.Need-compare-requires
 compare-requires c κs = search rules
 
-compare-plain-requires : tie.Need-compare-plain-requires
-compare-plain-requires c κs = search rules
-
 compare-outcomes-requires : tie.Need-compare-outcomes-requires
 compare-outcomes-requires c κs = search rules
 
@@ -66,7 +62,6 @@ compare-lists-spec =
     slice-aggregate-shorts-mut-2
     shorts-mut-requires-2
     compare-requires
-    compare-plain-requires
     compare-outcomes-requires
     compared-requires
     runs-requires

@@ -12,7 +12,7 @@ abbrev invariant-loop : tie.invariant-loop
 invariant-loop word all at₀ k₀ at k = Unit {0}
 
 abbrev decreases-loop : tie.decreases-loop
-decreases-loop word all at₀ k₀ at k = 89 - k
+decreases-loop word all at₀ k₀ at k = 86 - k
 
 byte-requires : tie.Need-byte-requires invariant-loop decreases-loop
 byte-requires c κs = search rules
