@@ -147,8 +147,8 @@ module _ (w : ℕ) (sc sv sd cc cv cd : List ℕ) (r : Accepted) (D : AcceptDone
           (λ c none.
           let a = (candidate-exactly w sc sv sd cc cv cd).0 c in
           record {
-            source-list = a.0;
-            candidate-list = a.1;
+            source_list = a.0;
+            candidate_list = a.1;
             no_longer = a.2;
             alike = (alike-exactly w (answer (rules_of sc sv sd)) (answer (rules_of cc cv cd))).0 none;
           })
@@ -157,7 +157,7 @@ module _ (w : ℕ) (sc sv sd cc cv cd : List ℕ) (r : Accepted) (D : AcceptDone
       back : Acceptable w sc sv sd cc cv cd → r.verdict ≡ Verdict.Fine
       back A =
           says Verdict.Fine
-          (reply-none w sc sv sd cc cv cd ((candidate-exactly w sc sv sd cc cv cd).1 (A.source-list, A.candidate-list, A.no_longer))
+          (reply-none w sc sv sd cc cv cd ((candidate-exactly w sc sv sd cc cv cd).1 (A.source_list, A.candidate_list, A.no_longer))
           ((alike-exactly w (answer (rules_of sc sv sd)) (answer (rules_of cc cv cd))).1 A.alike))
 
   -- The lookups of an accepted candidate decide as those of its source: the same decision, no match where there is none, and the same
@@ -165,15 +165,15 @@ module _ (w : ℕ) (sc sv sd cc cv cd : List ℕ) (r : Accepted) (D : AcceptDone
   pub accepted-lookup : r.verdict ≡ Verdict.Fine → (h : ℕ) → decided (looked_up w cc cv cd h) ≡ decided (looked_up w sc sv sd h)
   accepted-lookup e h =
       let A = accepted-exactly.0 e in
-      decide-alike-within w cc cv cd sc sv sd h (sound-list w 1 cc cv cd A.candidate-list) (sound-list w 1 sc sv sd A.source-list) (λ l. sym (A.alike h l))
+      decide-alike-within w cc cv cd sc sv sd h (sound-list w 1 cc cv cd A.candidate_list) (sound-list w 1 sc sv sd A.source_list) (λ l. sym (A.alike h l))
 
   -- It is enough that the lookups decide alike: two lists that pass their checks, the candidate with no more rules.
   pub lookups-accepted : check_list w 1 sc sv sd ≡ passed → check_list w 1 cc cv cd ≡ passed → length cd ≤ length sd
       → ((h : ℕ) → decided (looked_up w cc cv cd h) ≡ decided (looked_up w sc sv sd h)) → r.verdict ≡ Verdict.Fine
   lookups-accepted p q l alike =
       accepted-exactly.1 (record {
-        source-list = list-sound w 1 sc sv sd p;
-        candidate-list = list-sound w 1 cc cv cd q;
+        source_list = list-sound w 1 sc sv sd p;
+        candidate_list = list-sound w 1 cc cv cd q;
         no_longer = l;
         alike = λ h m. answered-once _ _ (sym (looked-answered w sc sv sd h p m) ∙ sym (alike h) ∙ looked-answered w cc cv cd h q m);
       })

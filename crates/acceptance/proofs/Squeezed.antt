@@ -49,8 +49,8 @@ accepted-onward w sc sv sd cc cv cd ec ev ed a b r A p B q R =
     let x = (accepted-exactly w sc sv sd cc cv cd a A).0 p in
     let y = (accepted-exactly w cc cv cd ec ev ed b B).0 q in
     (accepted-exactly w sc sv sd ec ev ed r R).1 (record {
-      source-list = x.source-list;
-      candidate-list = y.candidate-list;
+      source_list = x.source_list;
+      candidate_list = y.candidate_list;
       no_longer = omega (arith, x.no_longer, y.no_longer);
       alike = λ h l. x.alike h l ∙ y.alike h l;
     })

@@ -12,8 +12,8 @@ use Rattle.acceptance.specs.declared.Accepted.{Accepted}
 -- What a candidate has to be: both lists are valid at the width, it has no more rules than the source, and every header gets the same answer
 -- from both, a plain one as a lookup gives it. That it is accepted exactly then is the theorem `accepted-exactly`.
 pub record Acceptable (w : ℕ) (sc sv sd cc cv cd : List ℕ) : Type 0 where
-  pub source-list : Sound w sc sv sd
-  pub candidate-list : Sound w cc cv cd
+  pub source_list : Sound w sc sv sd
+  pub candidate_list : Sound w cc cv cd
   pub no_longer : length cd ≤ length sd
   pub alike : AlikeEverywhere w (answer (rules_of sc sv sd)) (answer (rules_of cc cv cd))
 

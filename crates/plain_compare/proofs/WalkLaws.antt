@@ -22,10 +22,10 @@ use Rattle.plain_compare.specs.Walk.{Passed, Passes}
 pub record Walking (f g : ℕ → ℕ) (top start h : ℕ) (first last old new first' last' old' new' : List ℕ) (count : ℕ) : Type 0 where
   pub from : start ≤ h
   pub upto : h ≤ top
-  pub first-long : length first' ≡ length first
-  pub last-long : length last' ≡ length last
-  pub old-long : length old' ≡ length old
-  pub new-long : length new' ≡ length new
+  pub first_long : length first' ≡ length first
+  pub last_long : length last' ≡ length last
+  pub old_long : length old' ≡ length old
+  pub new_long : length new' ≡ length new
   pub first-is : Machine first'
   pub last-is : Machine last'
   pub listing : Listing f g start h first last old new first' last' old' new' count
@@ -36,10 +36,10 @@ module _ (f g : ℕ → ℕ) (top start : ℕ) (first last old new : List ℕ) w
   walk_start l R F L = record {
     from = omega arith;
     upto = l;
-    first-long = refl;
-    last-long = refl;
-    old-long = refl;
-    new-long = refl;
+    first_long = refl;
+    last_long = refl;
+    old_long = refl;
+    new_long = refl;
     first-is = F;
     last-is = L;
     listing = listing-same f g start 0 first last old new first last old new 0 (listing_start f g top start first last old new R) start
@@ -52,13 +52,13 @@ module _ (f g : ℕ → ℕ) (top start : ℕ) (first last old new : List ℕ) w
     walk-room =
         let R = W.listing.room in
         record {
-          lasts = W.last-long ∙ R.lasts ∙ sym W.first-long;
-          olds = omega (arith, W.old-long, R.olds, W.first-long);
-          news = omega (arith, W.new-long, R.news, W.first-long);
+          lasts = W.last_long ∙ R.lasts ∙ sym W.first_long;
+          olds = omega (arith, W.old_long, R.olds, W.first_long);
+          news = omega (arith, W.new_long, R.news, W.first_long);
         }
 
     pub walk-few : count ≤ length old'
-    walk-few = omega (arith, W.listing.few, W.old-long)
+    walk-few = omega (arith, W.listing.few, W.old_long)
 
     -- the walk goes on
     pub walk-on : (first'' last'' old'' new'' : List ℕ) (r : Noted) (n : ℕ) → h < top
@@ -69,10 +69,10 @@ module _ (f g : ℕ → ℕ) (top start : ℕ) (first last old new : List ℕ) w
     walk-on first'' last'' old'' new'' r n l a b c d F L P e = record {
       from = omega (arith, W.from);
       upto = omega arith;
-      first-long = a ∙ W.first-long;
-      last-long = b ∙ W.last-long;
-      old-long = c ∙ W.old-long;
-      new-long = d ∙ W.new-long;
+      first_long = a ∙ W.first_long;
+      last_long = b ∙ W.last_long;
+      old_long = c ∙ W.old_long;
+      new_long = d ∙ W.new_long;
       first-is = F;
       last-is = L;
       listing = rw e at (P start first last old new W.from W.listing);
@@ -84,7 +84,7 @@ module _ (f g : ℕ → ℕ) (top start : ℕ) (first last old new : List ℕ) w
           → RunsPut f g top start first last old new first' last' old' new' r
       walk_end l r c p =
           let M : Slices f g top start first last old new first' last' =
-          record { room = W.listing.room; firsts = W.first-long; lasts = W.last-long; first-was = was-first; last-was = was-last; first-is = W.first-is; last-is = W.last-is } in
+          record { room = W.listing.room; firsts = W.first_long; lasts = W.last_long; first-was = was-first; last-was = was-last; first-is = W.first-is; last-is = W.last-is } in
           let e : h ≡ top = omega (arith, W.upto) in
           all_listed f g top start first last old new first' last' old' new' M r count (rw e at W.listing) c p
 
@@ -96,7 +96,7 @@ module _ (f g : ℕ → ℕ) (top start : ℕ) (first last old new : List ℕ) w
       unfolding Passed halves_of
       walk_more first'' last'' old'' new'' noted l a b F L P q x e r c p =
           let M : Slices f g top start first last old new first'' last'' =
-          record { room = W.listing.room; firsts = a ∙ W.first-long; lasts = b ∙ W.last-long; first-was = was-first; last-was = was-last; first-is = F; last-is = L } in
+          record { room = W.listing.room; firsts = a ∙ W.first_long; lasts = b ∙ W.last_long; first-was = was-first; last-was = was-last; first-is = F; last-is = L } in
           let S : Stopped f g start (h + 1) first last old new first'' last'' old'' new'' h = rw q at (P start first last old new W.from W.listing) in
           places-used f g top start first last old new first'' last'' old'' new'' M r h (h + 1) l S
           (c ∙ sym W.listing.sized ∙ S.listing.sized) (p ∙ ap (λ (y : Word). Gives (y.low ∷ y.high ∷ [])) e)

@@ -1,10 +1,8 @@
 use mathlib.Core.Path.{sym, ◌∙◌}
-use mathlib.Core.Logic.{⊎_elim}
 use Rattle.compare.proofs.EngineHalves.{tell-same, tell-full, tell-apart, tell-split}
-use borrow.Author.Tests.{not-false}
 use borrow.Author.Rules.{rules}
 use Rattle.compare.proofs.engine_cubes.look_at.Goals as goal
-use Rattle.compare.proofs.engine_cubes.look_at.Goals.{then-not-seen, else-not-seen}
+use Rattle.compare.proofs.engine_cubes.look_at.Goals.{then-not-seen+else-answer, else-not-seen}
 
 pub returns-in_default : goal.returns-in_default
 returns-in_default c = tell-same _ _ _ _ (c.agree.ensures c.in_default.is)
@@ -13,10 +11,11 @@ pub returns-then-answer : goal.returns-then-answer
 returns-then-answer c = tell-apart _ _ _ _ (λ q. c.if-answer.true (c.answer.ensures ∙ q ∙ sym c.answer-then-not-seen.ensures))
 
 pub returns-then-is_full : goal.returns-then-is_full
-returns-then-is_full c = tell-full _ _ _ _ (c.is_full.ensures.0 c.if-is_full.true) ((elim c.if-not-seen.branch [ then-not-seen w ↦ sym w.1.ensures ∙ w.3.left ∙ w.2.ensures | else-not-seen w ↦ c.requires.4 (not-false _ w.left) ])
+returns-then-is_full c = tell-full _ _ _ _ (c.is_full.ensures.0 c.if-is_full.true) (elim c.if-not-seen.branch [ then-not-seen+else-answer w ↦ sym w.answer.ensures ∙ w.if-answer.false ∙ w.answer-then-not-seen.ensures | else-not-seen w ↦ c.requires.4 w.if-not-seen.false ])
 
 pub pick-requires : goal.pick-requires
 pick-requires c = c.is_full.ensures.1 c.if-is_full.false
 
 pub returns : goal.returns
-returns c = tell-split _ _ _ _ _ c.pick.result c.place.ensures c.pick.ensures.1 ((elim c.if-not-seen.branch [ then-not-seen w ↦ sym w.1.ensures ∙ w.3.left ∙ w.2.ensures | else-not-seen w ↦ c.requires.4 (not-false _ w.left) ])
+returns c = tell-split _ _ _ _ _ c.pick.result c.place.ensures c.pick.ensures.1
+    (elim c.if-not-seen.branch [ then-not-seen+else-answer w ↦ sym w.answer.ensures ∙ w.if-answer.false ∙ w.answer-then-not-seen.ensures | else-not-seen w ↦ c.requires.4 w.if-not-seen.false ])

@@ -43,16 +43,16 @@ wide-requires : tie.Need-wide-requires invariant-loop decreases-loop
 wide-requires c κs = search rules
 
 same_length : tie.Need-same-length invariant-loop decreases-loop
-same_length c = c.before.before.before.before.before.before.before.before.before.before.before.step.auto.1.1.1.1.1.1.1.1.0 ∙ c.before.before.before.before.before.before.before.before.before.before.before.before.before.before.before.before.before.loop.invariant.first-long
+same_length c = c.before.before.before.before.before.before.before.before.before.before.before.step.auto.1.1.1.1.1.1.1.1.0 ∙ c.before.before.before.before.before.before.before.before.before.before.before.before.before.before.before.before.before.loop.invariant.first_long
 
 same-length-2 : tie.Need-same-length-2 invariant-loop decreases-loop
-same-length-2 c = c.before.before.before.before.before.before.before.before.before.before.before.step.auto.1.1.1.1.1.1.1.1.1.0 ∙ c.before.before.before.before.before.before.before.before.before.before.before.before.before.before.before.before.before.loop.invariant.last-long
+same-length-2 c = c.before.before.before.before.before.before.before.before.before.before.before.step.auto.1.1.1.1.1.1.1.1.1.0 ∙ c.before.before.before.before.before.before.before.before.before.before.before.before.before.before.before.before.before.loop.invariant.last_long
 
 same-length-3 : tie.Need-same-length-3 invariant-loop decreases-loop
-same-length-3 c = c.before.before.before.before.before.before.before.before.before.before.before.step.auto.1.1.1.1.1.1.1.1.1.1.0 ∙ c.before.before.before.before.before.before.before.before.before.before.before.before.before.before.before.before.before.loop.invariant.old-long
+same-length-3 c = c.before.before.before.before.before.before.before.before.before.before.before.step.auto.1.1.1.1.1.1.1.1.1.1.0 ∙ c.before.before.before.before.before.before.before.before.before.before.before.before.before.before.before.before.before.loop.invariant.old_long
 
 same-length-4 : tie.Need-same-length-4 invariant-loop decreases-loop
-same-length-4 c = c.before.before.before.before.before.before.before.before.before.before.before.step.auto.1.1.1.1.1.1.1.1.1.1.1.0 ∙ c.before.before.before.before.before.before.before.before.before.before.before.before.before.before.before.before.before.loop.invariant.new-long
+same-length-4 c = c.before.before.before.before.before.before.before.before.before.before.before.step.auto.1.1.1.1.1.1.1.1.1.1.1.0 ∙ c.before.before.before.before.before.before.before.before.before.before.before.before.before.before.before.before.before.loop.invariant.new_long
 
 returns : tie.Need-returns invariant-loop decreases-loop
 returns c = walk_more _ _ _ _ _ _ _ _ _ _ _ _ _ _ c.before.before.before.before.before.before.before.before.before.before.before.before.before.before.before.before.before.loop.invariant (λ i. (c.before.before.before.before.before.before.before.before.before.before.before.before.before.before.before.before.before.before.before.before.before.before.slice-known.given i).fits) (λ i. (c.before.before.before.before.before.before.before.before.before.before.before.before.before.before.before.before.before.before.before.before.before.slice-known2.given i).fits) _ _ _ _ _ (omega (arith, c.before.before.before.before.before.before.before.before.before.before.before.before.before.before.before.before.loop-test.true, c.before.before.before.before.before.before.before.before.before.before.before.before.before.before.before.before.before.before.last_of.ensures, pow_pos c.before.before.before.before.before.before.before.before.before.before.before.before.before.before.before.before.before.before.before.before.before.before.before.before.before.before.before.before.before.args.width)) c.before.before.before.before.before.before.before.before.before.before.before.step.auto.1.1.1.1.1.1.1.1.0 c.before.before.before.before.before.before.before.before.before.before.before.step.auto.1.1.1.1.1.1.1.1.1.0 (λ i. (c.before.before.before.before.before.before.before.before.before.slice-known5.given i).fits) (λ i. (c.before.before.before.before.before.before.before.slice-known6.given i).fits) c.before.before.before.before.before.before.before.before.before.before.before.step.ensures c.before.enum_told.given.1 _ c.wide.ensures _ refl refl
@@ -64,16 +64,16 @@ loop-again : tie.Need-loop-preserved invariant-loop decreases-loop
 loop-again c = walk-on _ _ _ _ _ _ _ _ _ _ _ _ _ _ c.before.before.before.before.before.before.before.before.before.before.before.before.before.before.before.before.before.loop.invariant _ _ _ _ _ _ (omega (arith, c.before.before.before.before.before.before.before.before.before.before.before.before.before.before.before.before.loop-test.true, c.before.before.before.before.before.before.before.before.before.before.before.before.before.before.before.before.before.before.last_of.ensures, pow_pos c.before.before.before.before.before.before.before.before.before.before.before.before.before.before.before.before.before.before.before.before.before.before.before.before.before.before.before.before.before.args.width)) c.before.before.before.before.before.before.before.before.before.before.before.step.auto.1.1.1.1.1.1.1.1.0 c.before.before.before.before.before.before.before.before.before.before.before.step.auto.1.1.1.1.1.1.1.1.1.0 c.before.before.before.before.before.before.before.before.before.before.before.step.auto.1.1.1.1.1.1.1.1.1.1.0 c.before.before.before.before.before.before.before.before.before.before.before.step.auto.1.1.1.1.1.1.1.1.1.1.1.0 (λ i. (c.before.before.before.before.before.before.before.before.before.slice-known5.given i).fits) (λ i. (c.before.before.before.before.before.before.before.slice-known6.given i).fits) c.before.before.before.before.before.before.before.before.before.before.before.step.ensures c.before.noted.given.1
 
 same-length-5 : tie.Need-same-length-5 invariant-loop decreases-loop
-same-length-5 c = c.before.loop.invariant.first-long
+same-length-5 c = c.before.loop.invariant.first_long
 
 same-length-6 : tie.Need-same-length-6 invariant-loop decreases-loop
-same-length-6 c = c.before.loop.invariant.last-long
+same-length-6 c = c.before.loop.invariant.last_long
 
 same-length-7 : tie.Need-same-length-7 invariant-loop decreases-loop
-same-length-7 c = c.before.loop.invariant.old-long
+same-length-7 c = c.before.loop.invariant.old_long
 
 same-length-8 : tie.Need-same-length-8 invariant-loop decreases-loop
-same-length-8 c = c.before.loop.invariant.new-long
+same-length-8 c = c.before.loop.invariant.new_long
 
 returns-2 : tie.Need-returns-2 invariant-loop decreases-loop
 returns-2 c = walk_end _ _ _ _ _ _ _ _ _ _ _ _ _ _ c.before.loop.invariant (λ i. (c.before.before.before.before.before.before.slice-known.given i).fits) (λ i. (c.before.before.before.before.before.slice-known2.given i).fits) (omega (arith, c.loop-test.false, c.before.before.last_of.ensures)) _ refl refl
