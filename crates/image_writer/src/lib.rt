@@ -1,4 +1,5 @@
 // The writer of images that carry rule lists.
+#![tactic(auto)]
 mod puts;
 mod writing;
 

@@ -1,4 +1,5 @@
 // Pruning a list of rules: every rule that does nothing is dropped, and beside each that is kept stands the lowest header that needs it.
+#![tactic(auto)]
 mod asking;
 mod dropping;
 mod showing;
@@ -8,14 +9,14 @@ use rules::Refusal;
 pub use whole::prune;
 
 // What pruning did: entries kept, and rules dropped.
-#[derive(Drop)]
+#[derive(Clone, Copy)]
 pub struct Tally {
     pub kept: usize,
     pub dropped: usize,
 }
 
 // What pruning answers.
-#[derive(Drop)]
+#[derive(Clone, Copy)]
 pub enum Pruned {
     Done(Tally),
     Refused(Refusal),

@@ -1,0 +1,6 @@
+use Rattle.image_compare.proofs.CompareLaws.{first-without}
+use borrow.Author.Rules.{rules}
+use Rattle.image_compare.proofs.lists.compare_first.Goals as goal
+
+pub returns : goal.returns
+returns c = (first-without _ _ _ _ _ _ _ _ _ _ _ _).1 c.compare_first_outcomes.ensures

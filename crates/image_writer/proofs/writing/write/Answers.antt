@@ -1,0 +1,44 @@
+use Rattle.image_form.proofs.FormatLaws.{layout-body}
+use lib.ListN.{length}
+use Prim.Native.Nat.{◌-◌}
+use native.Mathlib.Omega.{arith}
+use Rattle.image_writer.proofs.GivenLaws.{shape-narrow}
+use Rattle.image_writer.proofs.WriteLaws.{counts-small, rules-few, wrote, written-refused, written}
+use borrow.Author.Rules.{rules}
+use Rattle.image_writer.proofs.writing.write.Goals as goal
+
+pub returns-in-Refused : goal.returns-in-Refused
+returns-in-Refused c = written-refused _ _ _ _ _ _ _ _ _ c.write_verdict-v.ensures c.in-Refused.is
+
+pub overflow_mul-from : goal.overflow_mul-from
+overflow_mul-from c = let f = wrote _ _ _ _ _ _ _ _ _ c.write_verdict-v.ensures c.in_default.is in
+    omega (arith, f.shape.few, f.small, f.fits)
+
+pub overflow_add-from : goal.overflow_add-from
+overflow_add-from c = let f = wrote _ _ _ _ _ _ _ _ _ c.write_verdict-v.ensures c.in_default.is in
+    omega (arith, f.shape.few, f.small, f.fits)
+
+pub put_head-requires : goal.put_head-requires
+put_head-requires c = let f = wrote _ _ _ _ _ _ _ _ _ c.write_verdict-v.ensures c.in_default.is in
+    (omega (arith, f.fits), shape-narrow _ _ _ _ _ _ _ f.shape, f.shape.few)
+
+pub put_contents-requires : goal.put_contents-requires
+put_contents-requires c = let f = wrote _ _ _ _ _ _ _ _ _ c.write_verdict-v.ensures c.in_default.is in
+    (f.shape.paired, omega (arith, f.fits, c.put_head.auto.out), counts-small _ _ _ _ _ _ _ _ f)
+
+pub put_rules-requires : goal.put_rules-requires
+put_rules-requires c = let f = wrote _ _ _ _ _ _ _ _ _ c.write_verdict-v.ensures c.in_default.is in
+    (omega (arith, f.fits, c.put_head.auto.out, c.put_contents.auto.out), f.shape.lent)
+
+pub overflow_mul-result : goal.overflow_mul-result
+overflow_mul-result c = let f = wrote _ _ _ _ _ _ _ _ _ c.write_verdict-v.ensures c.in_default.is in
+    let z = layout-body _ _ c.layout.ensures (length c.args.decision.now) in
+    omega (arith, rules-few _ _ _ _ _ _ _ _ f, z)
+
+pub overflow_add-result : goal.overflow_add-result
+overflow_add-result c = let f = wrote _ _ _ _ _ _ _ _ _ c.write_verdict-v.ensures c.in_default.is in
+    let z = layout-body _ _ c.layout.ensures (length c.args.decision.now) in
+    omega (arith, f.small, z)
+
+pub returns : goal.returns
+returns c = written _ _ _ _ _ _ _ _ _ c.write_verdict-v.ensures c.in_default.is _ (layout-body _ _ c.layout.ensures _).0 _ _ _ c.put_head.ensures c.put_contents.ensures c.put_rules.ensures
