@@ -1,9 +1,6 @@
-use mathlib.Core.Path.{◌≡◌, refl}
-use Prim.Native.Nat.{◌-◌, ◌≤◌}
+use mathlib.Core.Path.{refl}
 use native.Mathlib.Omega.{arith}
 use borrow.Author.Rules.{rules}
-use lib.ListN.{length}
-use Rattle.weaving.specs.Inner.{Cleared}
 use Rattle.weaving.proofs.SizeLaws.{cleared-none, cleared_more, cleared-end}
 use Rattle.weaving.proofs.cutting.clear_sizes.Goals as goal
 

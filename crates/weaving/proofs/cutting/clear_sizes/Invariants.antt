@@ -1,10 +1,7 @@
-use mathlib.Core.Path.{◌≡◌, refl}
+use mathlib.Core.Path.{◌≡◌}
 use Prim.Native.Nat.{◌-◌, ◌≤◌}
-use native.Mathlib.Omega.{arith}
-use borrow.Author.Rules.{rules}
 use lib.ListN.{length}
 use Rattle.weaving.specs.Inner.{Cleared}
-use Rattle.weaving.proofs.SizeLaws.{cleared-none, cleared_more, cleared-end}
 use Rattle.weaving.proofs.cutting.clear_sizes.Given as goal
 
 abbrev pub invariant-loop-k : goal.invariant-loop-k

@@ -1,12 +1,7 @@
-use mathlib.Core.Path.{ap₂, ◌∙◌}
 use Prim.Native.Nat.{◌-◌, ◌≤◌}
-use native.Mathlib.Omega.{arith}
-use borrow.Author.Rules.{rules}
-use lib.ListN.{length}
 use Rattle.rules.specs.Slices.{rules_of, rule_at}
-use Rattle.rules.proofs.SliceLaws.{told, rules-length}
 use Rattle.rules.specs.Rules.{crosses}
-use Rattle.weaving.proofs.ChunkLaws.{Looking, looking-none, looking-more, looking-yes, looking-no}
+use Rattle.weaving.proofs.ChunkLaws.{Looking}
 use Rattle.weaving.proofs.cutting.crossed.Given as goal
 
 abbrev pub invariant-loop-i : goal.invariant-loop-i

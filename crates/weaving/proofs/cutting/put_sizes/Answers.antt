@@ -1,20 +1,20 @@
 use mathlib.Core.Path.{◌≡◌, refl, sym}
 use mathlib.Core.List.{List}
-use Prim.Native.Nat.{◌-◌, ◌≤◌}
+use Prim.Native.Nat.{◌≤◌}
 use native.Mathlib.Omega.{arith}
 use borrow.Author.Rules.{rules}
 use lib.ListN.{length}
 use Rattle.rules.specs.Rule.{Rule}
 use Rattle.rules.specs.Slices.{rules_of}
 use Rattle.rules.proofs.SliceLaws.{rules-length}
-use Rattle.weaving.proofs.SizeLaws.{Sized, sized-none, sized-more, sized-done}
+use Rattle.weaving.proofs.SizeLaws.{sized-none, sized-more, sized-done}
 use Rattle.weaving.proofs.cutting.put_sizes.Goals as goal
 
 pub loop-from-init : goal.loop-from-init
 loop-from-init c = (refl, sized-none _ _)
 
 pub run_end-to-requires : goal.run_end-to-requires
-run_end-to-requires c = (search rules, search rules)
+run_end-to-requires c = record { lent = c.requires.lent; from_in_bounds = c.loop-from-test.true }
 
 pub overflow_sub-sizes : goal.overflow_sub-sizes
 overflow_sub-sizes c = omega (arith, c.run_end-to.ensures.later)

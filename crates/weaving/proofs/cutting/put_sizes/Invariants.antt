@@ -1,13 +1,8 @@
-use mathlib.Core.Path.{◌≡◌, refl, sym}
-use mathlib.Core.List.{List}
-use Prim.Native.Nat.{◌-◌, ◌≤◌}
-use native.Mathlib.Omega.{arith}
-use borrow.Author.Rules.{rules}
+use mathlib.Core.Path.{◌≡◌}
+use Prim.Native.Nat.{◌-◌}
 use lib.ListN.{length}
-use Rattle.rules.specs.Rule.{Rule}
 use Rattle.rules.specs.Slices.{rules_of}
-use Rattle.rules.proofs.SliceLaws.{rules-length}
-use Rattle.weaving.proofs.SizeLaws.{Sized, sized-none, sized-more, sized-done}
+use Rattle.weaving.proofs.SizeLaws.{Sized}
 use Rattle.weaving.proofs.cutting.put_sizes.Given as goal
 
 abbrev pub invariant-loop-from : goal.invariant-loop-from

@@ -1,13 +1,13 @@
 use mathlib.Core.Path.{◌≡◌}
 use mathlib.Core.List.{List}
-use Prim.Native.Nat.{◌-◌, ◌≤◌, ◌<◌}
+use Prim.Native.Nat.{◌<◌}
 use native.Mathlib.Omega.{arith}
 use borrow.Author.Rules.{rules}
 use lib.ListN.{length}
 use Rattle.rules.specs.Rule.{Rule}
 use Rattle.rules.specs.Slices.{rules_of}
 use Rattle.rules.proofs.SliceLaws.{rules-length}
-use Rattle.weaving.proofs.LaidLaws.{Running, running-one, running_more, running-cut, running-end}
+use Rattle.weaving.proofs.LaidLaws.{running-one, running_more, running-cut, running-end}
 use Rattle.weaving.proofs.cutting.run_end.Goals as goal
 
 pub loop-k-init : goal.loop-k-init

@@ -1,15 +1,8 @@
-use Rattle.rules.proofs.SliceLaws.{told}
-use mathlib.Core.Path.{◌≡◌, refl, sym, ap₂, ◌∙◌, subst}
-use mathlib.Core.List.{List}
+use mathlib.Core.Path.{◌≡◌}
 use Prim.Native.Nat.{◌-◌, ◌≤◌, ◌<◌}
-use native.Mathlib.Omega.{arith}
-use borrow.Author.Rules.{rules}
-use Rattle.rules.specs.Rule.{Rule}
-use Rattle.rules.specs.Slices.{rules_of, rule_at}
-use Rattle.rules.specs.Rules.{mergeable}
+use Rattle.rules.specs.Slices.{rules_of}
 use Rattle.weaving.specs.Inner.{NoRow, NoRows}
 use Rattle.weaving.specs.declared.merging.Pair.{Pair}
-use Rattle.weaving.proofs.PairLaws.{row-start, row-stop, row_more, rows_none, rows_more, found_none}
 use Rattle.weaving.proofs.merging.find_pair.Given as goal
 
 abbrev pub invariant-loop-j : goal.invariant-loop-j

@@ -1,22 +1,21 @@
 use mathlib.Core.Path.{refl}
 use mathlib.Core.List.{List}
-use Prim.Native.Nat.{◌-◌, ◌≤◌}
+use Prim.Native.Nat.{◌≤◌}
 use native.Mathlib.Omega.{arith}
 use borrow.Author.Rules.{rules}
 use lib.ListN.{length}
 use Rattle.rules.specs.Rule.{Rule}
 use Rattle.rules.specs.Slices.{rules_of}
-use Rattle.rules.proofs.SliceLaws.{Kept, kept-lent, rules-length}
-use Rattle.weaving.specs.Inner.{Tried}
+use Rattle.rules.proofs.SliceLaws.{kept-lent, rules-length}
 use Rattle.weaving.proofs.PairLaws.{tried-none, pair_of, none_of}
-use Rattle.weaving.proofs.GapLaws.{Merging, merging-none, merging-pair, merging-done, tried-merged}
+use Rattle.weaving.proofs.GapLaws.{merging-none, merging-pair, merging-done, tried-merged}
 use Rattle.weaving.proofs.merging.merge_chunk.Goals as goal
 
 pub loop-i-init : goal.loop-i-init
 loop-i-init c = (record { cares = refl; values = refl; decisions = refl }, merging-none _ _ _ (search rules), tried-none _ _ _)
 
 pub find_pair-requires : goal.find_pair-requires
-find_pair-requires c = (search rules, (search rules, c.loop-i.invariant.2))
+find_pair-requires c = record { lent = search rules; from_le_to = search rules; tried = c.loop-i.invariant.2 }
 
 pub returns-in_default : goal.returns-in_default
 returns-in_default c = let fits : c.args.to ≤ length (rules_of c.loop-i.care c.loop-i.value c.loop-i.decision) = omega (arith, rules-length _ _ _ (kept-lent _ _ _ _ _ _ c.loop-i.invariant.0 c.requires.lent), c.loop-i.invariant.0.cares, c.requires.from_le_to.1) in

@@ -1,15 +1,7 @@
-use mathlib.Core.Path.{refl}
-use mathlib.Core.List.{List}
-use Prim.Native.Nat.{◌-◌, ◌≤◌}
-use native.Mathlib.Omega.{arith}
-use borrow.Author.Rules.{rules}
-use lib.ListN.{length}
-use Rattle.rules.specs.Rule.{Rule}
 use Rattle.rules.specs.Slices.{rules_of}
-use Rattle.rules.proofs.SliceLaws.{Kept, kept-lent, rules-length}
+use Rattle.rules.proofs.SliceLaws.{Kept}
 use Rattle.weaving.specs.Inner.{Tried}
-use Rattle.weaving.proofs.PairLaws.{tried-none, pair_of, none_of}
-use Rattle.weaving.proofs.GapLaws.{Merging, merging-none, merging-pair, merging-done, tried-merged}
+use Rattle.weaving.proofs.GapLaws.{Merging}
 use Rattle.weaving.proofs.merging.merge_chunk.Given as goal
 
 abbrev pub invariant-loop-i : goal.invariant-loop-i

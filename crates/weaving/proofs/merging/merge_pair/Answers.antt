@@ -1,6 +1,4 @@
-use Prim.Native.Nat.{◌-◌}
 use native.Mathlib.Omega.{arith}
-use borrow.Author.Rules.{rules}
 use Rattle.rules.proofs.SliceLaws.{told, kept-lent, placed-rules, placed-kept}
 use Rattle.weaving.proofs.GapLaws.{closed-removed, closed-pair}
 use Rattle.weaving.proofs.merging.merge_pair.Goals as goal

@@ -1,12 +1,11 @@
-use Prim.Native.Nat.{ℕ, ◌-◌}
+use Prim.Native.Nat.{ℕ}
 use mathlib.Core.Path.{sym, ap, ◌∙◌}
 use Rattle.words.proofs.Tests.{and-on, and-off}
 use lib.Dec.{eqb}
-use borrow.Author.Tests.{eq-eqb, ne_eqb, not-true, not-false}
+use borrow.Author.Tests.{eq-eqb, ne_eqb}
 use Rattle.words.specs.Words.{set_bits}
 use Rattle.words.proofs.WordLaws.{holds}
 use Rattle.rules.specs.Rules.{mergeable}
-use borrow.Author.Rules.{rules}
 use Rattle.weaving.proofs.merging.mergeable.Goals as goal
 
 pub returns-then-not-same : goal.returns-then-not-same

@@ -5,7 +5,6 @@ use Rattle.words.specs.declared.Word.{Word}
 use Rattle.words.specs.Halves.{num, halves}
 use Rattle.words.proofs.WordLaws.{holds}
 use Rattle.rules.specs.Rules.{merged}
-use borrow.Author.Rules.{rules}
 use Rattle.weaving.proofs.merging.merged.Goals as goal
 
 pub returns : goal.returns
