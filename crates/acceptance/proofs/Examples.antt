@@ -11,7 +11,8 @@ use Rattle.rules.specs.Slices.{zipped, cares_of, values_of, decisions_of}
 use Rattle.rules.specs.Replies.{Reply, Refuses, passed}
 use Rattle.rules.specs.Checks.{width_check, lengths_check, size_check, pattern_fits, rule_check, rules_check, list_check}
 use Rattle.rules.specs.Calls.{check_list}
-use Rattle.compare.specs.Differing.{differ_on, lowest_from, lowest_difference}
+use Rattle.compare.specs.Needed.{lowest_from}
+use Rattle.compare.specs.Differing.{differ_on, lowest_difference}
 use Rattle.acceptance.specs.Accepting.{longer_check, candidate_check, lowest_unlike, accept_reply, beside}
 
 -- the reply for two lists in slices of just their size

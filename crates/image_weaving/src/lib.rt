@@ -1,4 +1,5 @@
 // The squeezing of the lists that an image carries, by weaving or by pruning, on any bytes.
+#![tactic(auto)]
 mod images;
 mod lists;
 
@@ -6,7 +7,7 @@ pub use images::{prune_image, weave_image};
 pub use lists::tally;
 
 // What is done to each list of an image.
-#[derive(Drop)]
+#[derive(Clone, Copy)]
 enum Squeeze {
     Weave,
     Prune,

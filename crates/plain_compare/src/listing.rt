@@ -7,7 +7,7 @@ ghost use Rattle.plain_compare.specs.Walk.{Tells, Passes};
 use words::{put_word, same, wide, word_at};
 
 // What is used of the result slices once a header is passed: so many places, or all, and the header has none.
-#[derive(Drop)]
+#[derive(Clone, Copy)]
 pub(crate) enum Noted {
     Going(usize),
     Full,

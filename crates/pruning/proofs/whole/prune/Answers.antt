@@ -16,7 +16,7 @@ prune_into-requires c = prune-ready _ _ _ _ _ _ _ _ _ c.check_list-v.ensures _ c
 pub returns : goal.returns
 returns c = let ready = prune-ready _ _ _ _ _ _ _ _ _ c.check_list-v.ensures _ c.in_default.is c.results_verdict-room.ensures c.in_default-room.is in
     let p = c.prune_into in
-    let new : Lent p.new.care.1.1.1.0 p.new.care.1.1.1.1.0 p.new.care.1.1.1.1.1.0 =
+    let new : Lent p.new.cares p.new.values p.new.decisions =
     record {
       values = omega (arith, p.auto.cares, p.auto.values, ready.1.values);
       decisions = omega (arith, p.auto.cares, p.auto.decisions, ready.1.decisions);

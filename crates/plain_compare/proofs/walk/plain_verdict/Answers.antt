@@ -1,0 +1,12 @@
+use native.Mathlib.Omega.{arith}
+use mathlib.Core.Path.{sym, ◌∙◌}
+use Rattle.compare_check.proofs.OrderLaws.{check-without}
+use Rattle.plain_compare.proofs.Same.{plain-check, wide-check}
+use borrow.Author.Rules.{rules}
+use Rattle.plain_compare.proofs.walk.plain_verdict.Goals as goal
+
+pub returns-then-width-gt12 : goal.returns-then-width-gt12
+returns-then-width-gt12 c = c.refused.ensures ∙ sym (wide-check c.args.width _ _ _ _ _ _ _ _ _ _ _ (omega (arith, c.if-width-gt12.true)))
+
+pub returns : goal.returns
+returns c = c.check_comparison.ensures ∙ sym (check-without _ _ _ _ _ _ _ _ _ _ _ _) ∙ sym (plain-check c.args.width _ _ _ _ _ _ _ _ _ _ _ (omega (arith, c.if-width-gt12.false)))
