@@ -1,5 +1,6 @@
 // The bits of a word: what two words have together, how many bits are set and where, and words of one bit or of the lowest.
 #![tactic(auto)]
+
 mod bits;
 mod powers;
 mod zeros;

@@ -1,5 +1,6 @@
 // Which command the words of the tool's command line ask for.
 #![tactic(auto)]
+
 ghost use Rattle.std.specs.Prelude.{◌≡◌};
 ghost use Rattle.command_line.specs.Words.{asks, file_command_of, command_of, names_defaults, wanted_of};
 

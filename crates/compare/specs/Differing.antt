@@ -1,5 +1,5 @@
 -- The lowest header on which two answers differ (requests 12 and 13). As in `Runs`, an answer is a number for each header.
-use Rattle.std.specs.Prelude.{ℕ, zero, suc, ◌^◌, ◌<◌, ◌≡◌, ◌≢◌, List, [], ◌∷◌, Bool, not, cond, eqb}
+use Rattle.std.specs.Prelude.{ℕ, ◌^◌, ◌<◌, ◌≡◌, ◌≢◌, List, Bool, not, eqb}
 use Rattle.compare.specs.Needed.{lowest_from}
 
 -- Whether two answers differ on a header.

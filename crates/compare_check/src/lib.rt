@@ -1,5 +1,6 @@
 // The two sides of a comparison: what a miss counts as on a side that has a default or none, and which comparisons are refused.
 #![tactic(auto)]
+
 mod checks;
 
 pub use checks::{check_comparison, miss_number};

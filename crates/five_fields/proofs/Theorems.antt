@@ -14,7 +14,7 @@ use Rattle.rules.specs.declared.Wire.{Wire}
 use Rattle.rules.specs.Rules.{answer, Valid}
 use Rattle.rules.specs.Lists.{All}
 use Rattle.rules.specs.Slices.{rules_of, care_of, value_of, decision_of, cares_of, values_of, decisions_of, filled}
-use Rattle.rules.specs.Replies.{Gives, Refuses, passed, ◌then◌}
+use Rattle.rules.specs.Replies.{Gives, Refuses, passed}
 use Rattle.rules.specs.Calls.{check_list, looked_up, decided, answered}
 use Rattle.rules.proofs.ReplyLaws.{then_next, then-refuses, then-assoc, then-second, one_value, bare-first, same-given}
 use Rattle.rules.proofs.ZipLaws.{ap₃}

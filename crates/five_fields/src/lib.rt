@@ -1,5 +1,6 @@
 // Five-field access rules (addresses, ports, protocol) as a list of ternary rules.
 #![tactic(auto)]
+
 mod checks;
 mod counts;
 mod entries;

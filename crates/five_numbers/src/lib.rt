@@ -1,5 +1,6 @@
 // The five numbers of a packet's header as one header, in wire order.
 #![tactic(auto)]
+
 mod headers;
 
 pub use headers::header;

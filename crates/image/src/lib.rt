@@ -1,5 +1,6 @@
 // Images that carry rule lists: asking and reading them, each on any bytes.
 #![tactic(auto)]
+
 mod places;
 mod questions;
 mod reading;

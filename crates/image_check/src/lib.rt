@@ -1,5 +1,6 @@
 // The checks of an image, on any bytes.
 #![tactic(auto)]
+
 mod checks;
 
 pub use checks::check;

@@ -1,5 +1,6 @@
 // The form of an image: its two formats, and the bytes, contents entries and rules that stand in it, each read from any bytes.
 #![tactic(auto)]
+
 mod formats;
 mod numbers;
 mod parts;

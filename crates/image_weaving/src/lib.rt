@@ -1,5 +1,6 @@
 // The squeezing of the lists that an image carries, by weaving or by pruning, on any bytes.
 #![tactic(auto)]
+
 mod images;
 mod lists;
 

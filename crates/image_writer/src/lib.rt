@@ -1,5 +1,6 @@
 // The writer of images that carry rule lists.
 #![tactic(auto)]
+
 mod puts;
 mod writing;
 

@@ -1,5 +1,6 @@
 // Two rules: covering, crossing and distance.
 #![tactic(auto)]
+
 mod pairs;
 mod patterns;
 

@@ -1,5 +1,6 @@
 // The prefix bit-swap of a list.
 #![tactic(auto)]
+
 mod prefixes;
 
 pub use prefixes::prefix_swap;

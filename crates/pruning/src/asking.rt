@@ -5,7 +5,7 @@ ghost use Rattle.words.specs.Slices.{halves_of};
 ghost use Rattle.rules.specs.Slices.{rules_of};
 ghost use Rattle.rules.specs.Replies.{Gives};
 ghost use Rattle.compare.specs.Needed.{lowest_change, needed_reply};
-ghost use Rattle.pruning.specs.Prune.{needless as needlessIn, needed_header};
+ghost use Rattle.pruning.specs.Prune.{needless as needless_in, needed_header};
 ghost use Rattle.pruning.specs.Inner.{Holds};
 
 use compare::{Needed, needed_at};
@@ -36,7 +36,7 @@ pub(crate) fn needless(
     k: usize,
 ) -> bool
     requires { Holds width care.now value.now decision.now count }
-    ensures { result ≡ needlessIn width (take count (rules_of care.now value.now decision.now)) k }
+    ensures { result ≡ needless_in width (take count (rules_of care.now value.now decision.now)) k }
 {
     let n = ask(width, care, value, decision, count, k);
     match n {

@@ -1,5 +1,6 @@
 // Pruning a list of rules: every rule that does nothing is dropped, and beside each that is kept stands the lowest header that needs it.
 #![tactic(auto)]
+
 mod asking;
 mod dropping;
 mod showing;

@@ -1,14 +1,14 @@
 // Taking a rule out of three slices, for the calls that squeeze a list where it stands.
 ghost use Rattle.std.specs.Prelude.{◌≡◌, ◌≤◌, ◌<◌, length};
 ghost use Rattle.rules.specs.Slices.{rules_of, Lent};
-ghost use Rattle.removal.specs.Removal.{Shifted, removable as removableOf, Removed};
+ghost use Rattle.removal.specs.Removal.{Shifted, removable as removable_of, Removed};
 
 use rules::{Rule, put_rule, rule_at};
 use words::Word;
 
 // Whether rule i can be taken out of the first `count` rules.
 fn removable(care: &[u64], value: &[u64], decision: &[u16], i: usize, count: usize) -> bool
-    ensures { result ≡ removableOf care.now value.now decision.now i count }
+    ensures { result ≡ removable_of care.now value.now decision.now i count }
 {
     if care.len() != value.len() {
         return false;

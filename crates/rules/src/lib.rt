@@ -1,5 +1,6 @@
 // The rule library: rules, lists of rules, refusals and answers; checking and looking up.
 #![tactic(auto)]
+
 mod checks;
 mod lookups;
 mod slices;

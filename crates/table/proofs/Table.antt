@@ -9,7 +9,7 @@ use Rattle.words.specs.Slices.{words_of, halves_of}
 use Rattle.rules.specs.Rule.{Rule}
 use Rattle.rules.specs.Rules.{rule, matches, answer, first, position, no_match, covers, crosses, stars, mergeable, merged}
 use Rattle.rules.specs.Slices.{zipped, rules_of, cares_of, values_of, decisions_of}
-use Rattle.rules.specs.Replies.{Reply, Gives, Refuses, passed, ◌then◌}
+use Rattle.rules.specs.Replies.{Reply, Gives, Refuses, passed}
 use Rattle.rules.specs.Checks.{width_check, lengths_check, size_check, pattern_fits, rule_check, rules_check, list_check, header_check, room_check}
 use Rattle.rules.specs.Calls.{check_list, looked_up, decided}
 use Rattle.rules.proofs.ReplyLaws.{then_next}

@@ -1,5 +1,6 @@
 // Text for people: numbers read from words and written in decimal, and patterns written in 0, 1 and *.
 #![tactic(auto)]
+
 mod decimal;
 mod digits;
 mod numbers;

@@ -1,7 +1,7 @@
 // Numbers read from words of text.
 ghost use Rattle.std.specs.Prelude.{◌≡◌, drop};
 ghost use Rattle.words.specs.Halves.{limit};
-ghost use Rattle.text.specs.Numbers.{digit_of, goes_on, marked as markedOf, number_of};
+ghost use Rattle.text.specs.Numbers.{digit_of, goes_on, marked as marked_of, number_of};
 
 use crate::Number;
 use crate::digits::{Growth, grown};
@@ -56,7 +56,7 @@ fn digits_from(word: &[u8], from: usize, base: u32) -> Number
 
 // Whether a word starts with 0x and goes on.
 fn marked(word: &[u8]) -> bool
-    ensures { result ≡ markedOf word.now }
+    ensures { result ≡ marked_of word.now }
 {
     if 2 < word.len() {
         return word[0] == 48 && word[1] == 120;

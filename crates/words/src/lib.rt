@@ -1,5 +1,6 @@
 // Words of 128 bits, held as two machine words. A contract says which number the result holds, over natural numbers.
 #![tactic(auto)]
+
 mod machine;
 mod order;
 mod slices;

@@ -2,7 +2,6 @@ use mathlib.Core.Path.{sym, ◌∙◌}
 use native.Mathlib.Omega.{arith}
 use Rattle.command_line.specs.Words.{wanted_of}
 use Rattle.command_line.proofs.WordLaws.{defaults-long}
-use borrow.Author.Rules.{rules}
 use Rattle.command_line.proofs.asked.Goals as goal
 
 pub overflow_sub-words : goal.overflow_sub-words

@@ -1,6 +1,5 @@
 use Rattle.command_line.specs.Words.{file_command_of}
 use mathlib.Core.Path.{sym, ◌∙◌}
-use borrow.Author.Rules.{rules}
 use Rattle.command_line.proofs.file_command_of.Goals as goal
 
 pub returns-then-is : goal.returns-then-is

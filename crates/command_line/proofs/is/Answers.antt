@@ -2,8 +2,7 @@ use Rattle.command_line.specs.Words.{asks}
 use Rattle.words.proofs.Tests.{and-on, and-off}
 use Rattle.command_line.proofs.WordLaws.{same-decided}
 use borrow.Author.Tests.{eq-eqb, ne_eqb}
-use mathlib.Core.Path.{◌≡◌, ◌∙◌}
-use borrow.Author.Rules.{rules}
+use mathlib.Core.Path.{◌∙◌}
 use Rattle.command_line.proofs.is.Goals as goal
 
 pub returns-then-words-wanted : goal.returns-then-words-wanted

@@ -3,7 +3,6 @@ use borrow.Author.Tests.{le-leb, lt-leb}
 use Rattle.words.proofs.Tests.{and-on, and-off}
 use Rattle.command_line.specs.Words.{names_defaults}
 use Rattle.command_line.proofs.WordLaws.{same-decided}
-use borrow.Author.Rules.{rules}
 use Rattle.command_line.proofs.names_defaults.Goals as goal
 
 pub returns-then-same : goal.returns-then-same

@@ -1,6 +1,5 @@
 use Rattle.rules.proofs.ReplyLaws.{verdict-passed}
 use Rattle.acceptance.proofs.CallLaws.{both-sound, accept-refused, accept-judged}
-use borrow.Author.Rules.{rules}
 use Rattle.acceptance.proofs.accepting.accept.Goals as goal
 
 pub returns-in_default : goal.returns-in_default

@@ -1,6 +1,5 @@
 use native.Mathlib.Omega.{arith}
 use Rattle.acceptance.proofs.CallLaws.{source-refused, candidate-refused, candidate-longer, candidate-fine}
-use borrow.Author.Rules.{rules}
 use Rattle.acceptance.proofs.accepting.candidate_verdict.Goals as goal
 
 pub returns-in_default : goal.returns-in_default

@@ -1,7 +1,6 @@
 use mathlib.Core.Path.{refl}
 use Rattle.words.proofs.WordLaws.{holds, halves-zero}
 use Rattle.acceptance.proofs.JudgeLaws.{judged-fine, judged-unlike}
-use borrow.Author.Rules.{rules}
 use Rattle.acceptance.proofs.accepting.judged.Goals as goal
 
 pub returns-then-compared-eq0 : goal.returns-then-compared-eq0

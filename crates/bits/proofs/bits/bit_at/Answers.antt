@@ -1,6 +1,5 @@
 use native.Mathlib.Omega.{arith}
 use Rattle.words.proofs.WordLaws.{bit-low, bit-upper, bit_past}
-use borrow.Author.Rules.{rules}
 use Rattle.bits.proofs.bits.bit_at.Goals as goal
 
 pub returns-then-k-lt64 : goal.returns-then-k-lt64

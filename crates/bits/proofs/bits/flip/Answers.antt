@@ -1,6 +1,5 @@
 use native.Mathlib.Omega.{arith}
 use Rattle.words.proofs.WordLaws.{flip-made}
-use borrow.Author.Rules.{rules}
 use Rattle.bits.proofs.bits.flip.Goals as goal
 
 pub returns : goal.returns

@@ -1,8 +1,7 @@
 use Prim.Native.Nat.{ℕ}
-use mathlib.Core.Path.{sym, ap, ◌∙◌}
+use mathlib.Core.Path.{sym, ap}
 use lib.Dec.{eqb}
 use Rattle.words.proofs.BitLaws.{set_bits-ones}
-use borrow.Author.Rules.{rules}
 use Rattle.bits.proofs.bits.is_bit.Goals as goal
 
 pub returns : goal.returns

@@ -1,7 +1,6 @@
 use native.Mathlib.Omega.{arith}
 use mathlib.Core.Path.{◌∙◌}
 use Rattle.words.proofs.WordLaws.{one-low, one-high, one_none}
-use borrow.Author.Rules.{rules}
 use Rattle.bits.proofs.bits.is_single.Goals as goal
 
 pub returns-then-a-eq0 : goal.returns-then-a-eq0

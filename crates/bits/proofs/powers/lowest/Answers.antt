@@ -2,7 +2,6 @@ use Prim.Native.Nat.{◌-◌}
 use native.Mathlib.Omega.{arith}
 use Rattle.words.proofs.WordLaws.{one_shifted, lowest-low, lowest-high, lowest-past}
 use lib.Pow.{pow_pos}
-use borrow.Author.Rules.{rules}
 use Rattle.bits.proofs.powers.lowest.Goals as goal
 
 pub overflow_sub-result : goal.overflow_sub-result

@@ -1,6 +1,5 @@
 use native.Mathlib.Omega.{arith}
 use Rattle.words.proofs.WordLaws.{single-low, single-high, single-past}
-use borrow.Author.Rules.{rules}
 use Rattle.bits.proofs.powers.single.Goals as goal
 
 pub returns-then-k-lt64 : goal.returns-then-k-lt64

@@ -1,5 +1,4 @@
 use Rattle.words.proofs.WordLaws.{upper-made}
-use borrow.Author.Rules.{rules}
 use Rattle.bits.proofs.powers.upper.Goals as goal
 
 pub returns : goal.returns

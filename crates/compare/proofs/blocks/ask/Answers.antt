@@ -6,7 +6,6 @@ use Rattle.words.proofs.WordLaws.{holds, num-lt}
 use Rattle.words.proofs.Tests.{eqb_yes}
 use Rattle.compare.proofs.SweepSteps.{block-valid, block_last, known-before, known-near, ask-at, ask-none}
 use native.Mathlib.Omega.{arith}
-use borrow.Author.Rules.{rules}
 use Rattle.compare.proofs.blocks.ask.Goals as goal
 
 pub last_of-requires : goal.last_of-requires

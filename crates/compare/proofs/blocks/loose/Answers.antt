@@ -1,17 +1,11 @@
-use Prim.Native.Nat.{◌+◌, ◌-◌, ◌≤◌, ◌<◌}
+use Prim.Native.Nat.{◌+◌}
 use mathlib.Core.Path.{sym}
-use lib.ListN.{length}
-use Rattle.words.specs.Halves.{num}
-use Rattle.words.specs.Slices.{words_of}
 use Rattle.words.proofs.WordLaws.{holds, num-lt, halves-zero}
 use Rattle.words.proofs.SliceLaws.{words-length}
-use Rattle.compare.specs.EngineSets.{Pending}
-use Rattle.compare.specs.Sweep.{Loose}
 use Rattle.compare.proofs.EngineNumbers.{all_told}
 use Rattle.compare.proofs.EngineRules.{next-in}
 use Rattle.compare.proofs.SweepPlaces.{open_told, loose_none, loose-all, loose-skip, loose-more}
 use native.Mathlib.Omega.{arith}
-use borrow.Author.Rules.{rules}
 use Rattle.compare.proofs.blocks.loose.Goals as goal
 
 pub next-s-requires : goal.next-s-requires

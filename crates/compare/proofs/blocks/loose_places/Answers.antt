@@ -2,7 +2,6 @@ use Rattle.words.proofs.WordLaws.{holds, num-lt}
 use Rattle.compare.proofs.EngineNumbers.{all_told}
 use Rattle.compare.proofs.SweepPlaces.{settled-all, settled-places}
 use native.Mathlib.Omega.{arith}
-use borrow.Author.Rules.{rules}
 use Rattle.compare.proofs.blocks.loose_places.Goals as goal
 
 pub returns-then-om-nm : goal.returns-then-om-nm

@@ -8,7 +8,6 @@ use Rattle.compare.proofs.EngineNumbers.{lowest-told}
 use Rattle.compare.proofs.EngineBlocks.{block-few, ends}
 use Rattle.compare.proofs.SweepPlaces.{few-places, parted-one, parted-two}
 use native.Mathlib.Omega.{arith}
-use borrow.Author.Rules.{rules}
 use Rattle.compare.proofs.blocks.parts_of.Goals as goal
 
 pub overflow_sub-t : goal.overflow_sub-t

@@ -1,7 +1,6 @@
 use mathlib.Core.Path.{sym, ◌∙◌}
 use borrow.Author.Tests.{ltb-true, ltb-false}
 use Rattle.compare.proofs.SweepSteps.{shape-before, shape_same, shape-mixed, shape-piece, full-cube}
-use borrow.Author.Rules.{rules}
 use Rattle.compare.proofs.blocks.shape_of.Goals as goal
 
 pub returns-then-less : goal.returns-then-less

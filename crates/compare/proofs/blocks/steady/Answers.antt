@@ -2,7 +2,6 @@ use mathlib.Core.Path.{sym, ◌∙◌}
 use mathlib.Core.Bool.{false≢true}
 use Rattle.compare.proofs.EngineRules.{next-spotted}
 use Rattle.compare.proofs.SweepSteps.{steady-only, nothing-answers, nothing-ready, steady-engine}
-use borrow.Author.Rules.{rules}
 use Rattle.compare.proofs.blocks.steady.Goals as goal
 
 pub only-requires : goal.only-requires

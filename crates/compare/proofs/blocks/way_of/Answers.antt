@@ -2,7 +2,6 @@ use Prim.Native.Nat.{ℕ, ◌-◌, ◌^◌}
 use mathlib.Core.Path.{ap, ◌∙◌}
 use Rattle.words.specs.Halves.{num, limit}
 use Rattle.compare.proofs.SweepSteps.{block-valid, mixed-some, way-piece, way_parts}
-use borrow.Author.Rules.{rules}
 use Rattle.compare.proofs.blocks.way_of.Goals as goal
 
 pub shape_of-shape-requires : goal.shape_of-shape-requires

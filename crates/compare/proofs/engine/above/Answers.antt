@@ -1,5 +1,4 @@
 use Rattle.compare.proofs.EngineNumbers.{above-told}
-use borrow.Author.Rules.{rules}
 use Rattle.compare.proofs.engine.above.Goals as goal
 
 pub returns : goal.returns

@@ -1,6 +1,5 @@
 use Rattle.words.proofs.WordLaws.{single-told}
 use Rattle.compare.proofs.EngineNumbers.{after-told}
-use borrow.Author.Rules.{rules}
 use Rattle.compare.proofs.engine.after.Goals as goal
 
 pub returns : goal.returns

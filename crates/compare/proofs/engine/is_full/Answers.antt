@@ -1,7 +1,6 @@
 use Rattle.words.proofs.WordLaws.{num-lt, holds}
 use Rattle.compare.proofs.EngineNumbers.{full-told}
 use native.Mathlib.Omega.{arith}
-use borrow.Author.Rules.{rules}
 use Rattle.compare.proofs.engine.is_full.Goals as goal
 
 pub returns : goal.returns

@@ -1,5 +1,4 @@
 use Rattle.words.proofs.WordLaws.{single-told}
-use borrow.Author.Rules.{rules}
 use Rattle.compare.proofs.engine.place.Goals as goal
 
 pub returns : goal.returns

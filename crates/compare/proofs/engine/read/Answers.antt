@@ -1,5 +1,4 @@
 use Rattle.compare.proofs.EngineNumbers.{read_told}
-use borrow.Author.Rules.{rules}
 use Rattle.compare.proofs.engine.read.Goals as goal
 
 pub returns : goal.returns

@@ -1,7 +1,5 @@
 use Prim.Native.Nat.{◌+◌, ◌-◌, ◌≤◌, ◌<◌}
 use Rattle.compare.specs.EngineSets.{Pending}
-use native.Mathlib.Omega.{arith}
-use borrow.Author.Rules.{rules}
 use Rattle.compare.proofs.engine_choice.fewest.Given as goal
 
 abbrev pub invariant-loop-s : goal.invariant-loop-s

@@ -2,7 +2,6 @@ use mathlib.Core.Path.{sym, ◌∙◌}
 use Rattle.words.proofs.WordLaws.{num-lt, holds}
 use Rattle.compare.proofs.EngineFree.{wanted-place, free-place}
 use native.Mathlib.Omega.{arith}
-use borrow.Author.Rules.{rules}
 use Rattle.compare.proofs.engine_choice.pick.Goals as goal
 
 pub overflow_sub-result : goal.overflow_sub-result

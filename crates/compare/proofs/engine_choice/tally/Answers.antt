@@ -1,7 +1,6 @@
 use lib.Count.{trailing_le}
 use Rattle.compare.proofs.EngineWords.{fewer}
 use native.Mathlib.Omega.{arith}
-use borrow.Author.Rules.{rules}
 use Rattle.compare.proofs.engine_choice.tally.Goals as goal
 
 pub loop-some-init : goal.loop-some-init

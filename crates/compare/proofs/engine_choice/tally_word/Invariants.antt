@@ -1,7 +1,3 @@
-use lib.Count.{trailing_le}
-use Rattle.compare.proofs.EngineWords.{fewer}
-use native.Mathlib.Omega.{arith}
-use borrow.Author.Rules.{rules}
 use Rattle.compare.proofs.engine_choice.tally_word.Given as goal
 
 abbrev pub invariant-loop-x : goal.invariant-loop-x

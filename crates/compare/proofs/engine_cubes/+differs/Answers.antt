@@ -1,14 +1,11 @@
-use Prim.Native.Nat.{ℕ, ◌-◌, ◌<◌}
 use mathlib.Core.Path.{refl, sym, ap, ap₂, ◌∙◌}
 use mathlib.Core.Bool.{false≢true}
 use lib.Bits.{bit_and, bit_or}
-use lib.Count.{ones}
 use Rattle.words.specs.Halves.{num}
 use Rattle.words.proofs.WordLaws.{holds, num-lt}
 use Rattle.compare.proofs.EngineMembers.{none-member}
 use Rattle.compare.proofs.EngineHalves.{less-free, low-valid, high-valid, told_same, told-apart, told-split, say-at, say-same, say-found, say-both, still}
 use native.Mathlib.Omega.{arith}
-use borrow.Author.Rules.{rules}
 use Rattle.compare.proofs.engine_cubes.+differs.Goals as goal
 
 pub narrow-requires : goal.narrow-requires

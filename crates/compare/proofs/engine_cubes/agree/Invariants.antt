@@ -1,12 +1,9 @@
-use Prim.Native.Nat.{◌-◌, ◌<◌}
+use Prim.Native.Nat.{◌-◌}
 use lib.ListN.{length}
 use Rattle.words.specs.Halves.{num}
 use Rattle.words.specs.Slices.{words_of}
 use Rattle.compare.specs.EngineSets.{Spotted}
-use Rattle.compare.proofs.EngineRules.{next-spotted}
-use Rattle.compare.proofs.EngineLockstep.{Step, step_start, step_skip, step-more, step-cover, step-rest}
-use native.Mathlib.Omega.{arith}
-use borrow.Author.Rules.{rules}
+use Rattle.compare.proofs.EngineLockstep.{Step}
 use Rattle.compare.proofs.engine_cubes.agree.Given as goal
 
 abbrev pub invariant-loop-cube : goal.invariant-loop-cube

@@ -1,6 +1,5 @@
 use mathlib.Core.Path.{sym, ◌∙◌}
 use Rattle.compare.proofs.EngineHalves.{tell-same, tell-full, tell-apart, tell-split}
-use borrow.Author.Rules.{rules}
 use Rattle.compare.proofs.engine_cubes.look_at.Goals as goal
 use Rattle.compare.proofs.engine_cubes.look_at.Goals.{then-not-seen+else-answer, else-not-seen}
 

@@ -1,15 +1,11 @@
 use Prim.Native.Nat.{◌+◌, ◌-◌, ◌≤◌, ◌<◌}
 use mathlib.Core.Path.{◌≡◌}
-use mathlib.Core.Bool.{true, false≢true}
+use mathlib.Core.Bool.{true}
 use lib.ListN.{length}
-use Rattle.words.proofs.Tests.{eqb_yes}
 use Rattle.words.specs.Halves.{num}
 use Rattle.words.specs.Slices.{words_of}
 use Rattle.compare.specs.EngineSets.{member, Pending}
-use Rattle.compare.proofs.EngineRules.{next-in}
-use Rattle.compare.proofs.EngineLockstep.{Through, through-start, through-more, through-cover, only-miss}
-use native.Mathlib.Omega.{arith}
-use borrow.Author.Rules.{rules}
+use Rattle.compare.proofs.EngineLockstep.{Through}
 use Rattle.compare.proofs.engine_cubes.only.Given as goal
 
 abbrev pub invariant-loop-t : goal.invariant-loop-t

@@ -4,7 +4,6 @@ use lib.Bits.{bit_or}
 use Rattle.words.specs.Halves.{num}
 use Rattle.words.proofs.WordLaws.{holds}
 use Rattle.compare.proofs.EngineNumbers.{says_of}
-use borrow.Author.Rules.{rules}
 use Rattle.compare.proofs.engine_cubes.same_outside.Goals as goal
 
 pub returns : goal.returns

@@ -1,5 +1,4 @@
 use mathlib.Core.Bool.{false≢true}
-use borrow.Author.Rules.{rules}
 use Rattle.compare.proofs.engine_cubes.same_patterns.Goals as goal
 
 pub returns-then-same_outside : goal.returns-then-same_outside

@@ -1,6 +1,5 @@
 use mathlib.Core.Bool.{false≢true}
 use native.Mathlib.Omega.{arith}
-use borrow.Author.Rules.{rules}
 use Rattle.compare.proofs.engine_cubes.same_rest.Goals as goal
 
 pub same_patterns-requires : goal.same_patterns-requires

@@ -1,14 +1,11 @@
 use Prim.Native.Nat.{◌+◌, ◌-◌, ◌≤◌, ◌<◌}
-use mathlib.Core.Path.{◌≡◌, sym, ◌∙◌}
+use mathlib.Core.Path.{◌≡◌}
 use mathlib.Core.Bool.{true}
 use lib.ListN.{length}
 use Rattle.words.specs.Halves.{num}
 use Rattle.words.specs.Slices.{words_of}
 use Rattle.compare.specs.EngineSets.{member, hit, answer_of, Pending}
-use Rattle.compare.proofs.EngineFirst.{rest, rest_end, rest-pass, rest-take}
-use Rattle.compare.proofs.EngineRules.{hit-yes, hit-no, answer-rest, rest_live, next-in}
-use native.Mathlib.Omega.{arith}
-use borrow.Author.Rules.{rules}
+use Rattle.compare.proofs.EngineFirst.{rest}
 use Rattle.compare.proofs.engine_sets.answer.Given as goal
 
 abbrev pub invariant-loop-s : goal.invariant-loop-s

@@ -1,7 +1,6 @@
 use Rattle.words.proofs.WordLaws.{holds, num-lt}
 use Rattle.compare.proofs.EngineNumbers.{end-told}
 use native.Mathlib.Omega.{arith}
-use borrow.Author.Rules.{rules}
 use Rattle.compare.proofs.engine_sets.last_of.Goals as goal
 
 pub returns : goal.returns

@@ -1,13 +1,6 @@
-use Prim.Native.Nat.{◌*◌, ◌<◌}
-use lib.Count.{trailing_le, count_trailing_zeros}
-use lib.ListN.{length}
 use Rattle.words.specs.Halves.{num}
 use Rattle.words.specs.Slices.{words_of}
-use Rattle.words.proofs.SliceLaws.{words-length}
-use Rattle.compare.proofs.EngineWords.{fewer}
-use Rattle.compare.proofs.EngineSieve.{Sieved, sieve-start, sieve-end, sieve-past, sieve-word, sieve-there, sieve-on, like-narrowed, like-kept}
-use native.Mathlib.Omega.{arith}
-use borrow.Author.Rules.{rules}
+use Rattle.compare.proofs.EngineSieve.{Sieved}
 use Rattle.compare.proofs.engine_sets.narrow.Given as goal
 
 abbrev pub invariant-loop-some : goal.invariant-loop-some

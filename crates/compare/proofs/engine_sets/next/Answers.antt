@@ -1,7 +1,6 @@
 use lib.Count.{trailing_le}
-use Rattle.compare.proofs.EngineWords.{Sought, sought-start, sought-none, sought-more, sought-few, sought-after, sought-before, sought-found, sought-rest, some-place, fewer, not-zero}
+use Rattle.compare.proofs.EngineWords.{sought-start, sought-none, sought-more, sought-few, sought-after, sought-before, sought-found, sought-rest, some-place, fewer, not-zero}
 use native.Mathlib.Omega.{arith}
-use borrow.Author.Rules.{rules}
 use Rattle.compare.proofs.engine_sets.next.Goals as goal
 
 pub loop-x-init : goal.loop-x-init

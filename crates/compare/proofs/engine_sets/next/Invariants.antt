@@ -1,7 +1,4 @@
-use lib.Count.{trailing_le}
-use Rattle.compare.proofs.EngineWords.{Sought, sought-start, sought-none, sought-more, sought-few, sought-after, sought-before, sought-found, sought-rest, some-place, fewer, not-zero}
-use native.Mathlib.Omega.{arith}
-use borrow.Author.Rules.{rules}
+use Rattle.compare.proofs.EngineWords.{Sought}
 use Rattle.compare.proofs.engine_sets.next.Given as goal
 
 abbrev pub invariant-loop-x : goal.invariant-loop-x

@@ -2,7 +2,6 @@ use mathlib.Core.Path.{refl, sym}
 use Rattle.compare.proofs.EngineMembers.{put-sized, put-none}
 use Rattle.compare.proofs.EngineSieve.{written}
 use native.Mathlib.Omega.{arith}
-use borrow.Author.Rules.{rules}
 use Rattle.compare.proofs.engine_sets.put_word.Goals as goal
 
 pub returns-then-keep-ne0 : goal.returns-then-keep-ne0

@@ -1,7 +1,6 @@
 use Rattle.compare.proofs.EngineNumbers.{low_of, high-of, low_and, high-and, low-apart, low_alike}
 use mathlib.Core.Path.{refl}
 use native.Mathlib.Omega.{arith}
-use borrow.Author.Rules.{rules}
 use Rattle.compare.proofs.engine_sets.rule_meets.Goals as goal
 
 pub returns-then-low_at-cube : goal.returns-then-low_at-cube

@@ -1,18 +1,15 @@
-use Prim.Native.Nat.{ℕ, ◌+◌, ◌-◌, ◌*◌, ◌<◌}
+use Prim.Native.Nat.{ℕ, ◌+◌, ◌*◌, ◌<◌}
 use mathlib.Core.Path.{sym}
 use mathlib.Core.Bool.{false≢true}
-use mathlib.Core.Logic.{⊎_elim}
 use lib.Count.{trailing_le, count_trailing_zeros}
 use lib.ListN.{length}
-use Rattle.words.specs.Halves.{num}
 use Rattle.words.specs.Slices.{words_of}
 use Rattle.words.proofs.SliceLaws.{words-length}
-use Rattle.compare.specs.EngineSets.{put, Left, Kept}
+use Rattle.compare.specs.EngineSets.{put}
 use Rattle.compare.proofs.EngineRules.{kept-skip, add-in, drop-apart, kept-cut}
 use Rattle.compare.proofs.EngineWords.{whole_word, left_end, found, found_after, found_none, found_left, some-place}
 use Rattle.compare.proofs.EngineSieve.{more_of, sift-start, sift-none, sift_on}
 use native.Mathlib.Omega.{arith}
-use borrow.Author.Rules.{rules}
 use Rattle.compare.proofs.engine_sets.sift.Goals as goal
 use Rattle.compare.proofs.engine_sets.sift.Goals.{then-rule_meets+else-rule_spans, else-rule_meets}
 
@@ -93,10 +90,12 @@ loop-x-preserved c = let a = c.args in
     let T = kept-skip _ _ _ _ _ L.from _ (a.w * 64 + count_trailing_zeros 64 L.x) K (found_after _ _ _ _ S u) (omega arith) (found_none _ _ _ _ S u) in
     let m = found _ _ _ _ S u in
     let more = more_of a.out.now a.w p.5.sized w L.keep (count_trailing_zeros 64 L.x) u in (
-      (elim c.if-rule_meets.branch [ then-rule_meets+else-rule_spans v ↦
-          rw v.keep-is (add-in _ _ _ _ _ (a.w * 64 + count_trailing_zeros 64 L.x) (put a.out.now a.w L.keep) _ T l m (c.rule_meets.ensures.0 v.if-rule_meets.true) more)
-          | else-rule_meets v ↦
-          rw v.keep-is (drop-apart _ _ _ _ _ (a.w * 64 + count_trailing_zeros 64 L.x) (put a.out.now a.w L.keep) T l (c.rule_meets.ensures.1 v.if-rule_meets.false)) ]),
+      (elim c.if-rule_meets.branch [
+        | then-rule_meets+else-rule_spans v ↦
+            rw v.keep-is (add-in _ _ _ _ _ (a.w * 64 + count_trailing_zeros 64 L.x) (put a.out.now a.w L.keep) _ T l m (c.rule_meets.ensures.0 v.if-rule_meets.true) more)
+        | else-rule_meets v ↦
+            rw v.keep-is (drop-apart _ _ _ _ _ (a.w * 64 + count_trailing_zeros 64 L.x) (put a.out.now a.w L.keep) T l (c.rule_meets.ensures.1 v.if-rule_meets.false))
+      ]),
       found_left _ _ _ _ S u,
     )
 

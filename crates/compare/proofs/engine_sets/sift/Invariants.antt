@@ -1,18 +1,7 @@
-use Prim.Native.Nat.{ℕ, ◌+◌, ◌-◌, ◌*◌, ◌<◌}
-use mathlib.Core.Path.{sym}
-use mathlib.Core.Bool.{false≢true}
-use mathlib.Core.Logic.{⊎_elim}
-use lib.Count.{trailing_le, count_trailing_zeros}
-use lib.ListN.{length}
+use Prim.Native.Nat.{◌+◌, ◌-◌, ◌*◌}
 use Rattle.words.specs.Halves.{num}
 use Rattle.words.specs.Slices.{words_of}
-use Rattle.words.proofs.SliceLaws.{words-length}
 use Rattle.compare.specs.EngineSets.{put, Left, Kept}
-use Rattle.compare.proofs.EngineRules.{kept-skip, add-in, drop-apart, kept-cut}
-use Rattle.compare.proofs.EngineWords.{whole_word, left_end, found, found_after, found_none, found_left, some-place}
-use Rattle.compare.proofs.EngineSieve.{more_of, sift-start, sift-none, sift_on}
-use native.Mathlib.Omega.{arith}
-use borrow.Author.Rules.{rules}
 use Rattle.compare.proofs.engine_sets.sift.Given as goal
 
 abbrev pub invariant-loop-x : goal.invariant-loop-x

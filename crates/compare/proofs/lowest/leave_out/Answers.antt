@@ -1,5 +1,4 @@
 use Rattle.compare.proofs.ButLaws.{all_but}
-use borrow.Author.Rules.{rules}
 use Rattle.compare.proofs.lowest.leave_out.Goals as goal
 
 pub returns : goal.returns

@@ -2,11 +2,9 @@ use Rattle.words.specs.Words.{without as less}
 use mathlib.Core.Path.{sym, ap, ◌∙◌}
 use mathlib.Core.Bool.{false≢true}
 use native.Mathlib.Omega.{arith}
-use borrow.Author.Tests.{not-true, not-false}
 use Rattle.words.specs.Halves.{num}
 use Rattle.words.proofs.WordLaws.{holds}
 use Rattle.compare.proofs.LowestLaws.{zero-there, one-there, lowered-zero, lowered-fixed, part-valid, lowered_none, lowered-found}
-use borrow.Author.Rules.{rules}
 use Rattle.compare.proofs.lowest.lower.Goals as goal
 
 pub returns-then-is_zero : goal.returns-then-is_zero

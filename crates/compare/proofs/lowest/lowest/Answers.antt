@@ -1,10 +1,4 @@
-use Prim.Native.Nat.{◌-◌, ◌≤◌}
 use native.Mathlib.Omega.{arith}
-use borrow.Author.Rules.{rules}
-use Rattle.words.specs.Halves.{num}
-use Rattle.words.specs.Slices.{words_of}
-use Rattle.compare.specs.EngineSets.{answer_of}
-use Rattle.compare.specs.Search.{Lowered}
 use Rattle.compare.proofs.LowestLaws.{lowered-next}
 use Rattle.compare.proofs.lowest.lowest.Goals as goal
 

@@ -1,11 +1,8 @@
-use Prim.Native.Nat.{◌-◌, ◌≤◌}
-use native.Mathlib.Omega.{arith}
-use borrow.Author.Rules.{rules}
+use Prim.Native.Nat.{◌≤◌}
 use Rattle.words.specs.Halves.{num}
 use Rattle.words.specs.Slices.{words_of}
 use Rattle.compare.specs.EngineSets.{answer_of}
 use Rattle.compare.specs.Search.{Lowered}
-use Rattle.compare.proofs.LowestLaws.{lowered-next}
 use Rattle.compare.proofs.lowest.lowest.Given as goal
 
 abbrev pub invariant-loop-k : goal.invariant-loop-k

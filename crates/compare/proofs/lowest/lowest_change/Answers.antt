@@ -8,7 +8,6 @@ use Rattle.rules.proofs.CheckLaws.{sound-narrow}
 use Rattle.compare.proofs.EngineMembers.{none-member}
 use Rattle.compare.proofs.EngineWhole.{sound-ready}
 use Rattle.compare.proofs.SearchLaws.{in-cares, in-values, in-few, start-valid, search-none, search-start, search-end}
-use borrow.Author.Rules.{rules}
 use Rattle.compare.proofs.lowest.lowest_change.Goals as goal
 
 pub read-requires : goal.read-requires

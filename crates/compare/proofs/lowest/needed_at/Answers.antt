@@ -1,6 +1,5 @@
 use native.Mathlib.Omega.{arith}
 use Rattle.compare.proofs.SearchLaws.{needed-refused, needed-past, needed-sound, needed-found, needed-none}
-use borrow.Author.Rules.{rules}
 use Rattle.compare.proofs.lowest.needed_at.Goals as goal
 
 pub returns-in-Refused : goal.returns-in-Refused

@@ -3,7 +3,6 @@ use Rattle.words.specs.Halves.{num}
 use Rattle.words.proofs.WordLaws.{holds}
 use Rattle.compare.proofs.EngineNumbers.{says, says_of}
 use native.Mathlib.Omega.{arith}
-use borrow.Author.Rules.{rules}
 use Rattle.compare.proofs.pieces.joins.Goals as goal
 
 pub returns-then-count-eq0 : goal.returns-then-count-eq0

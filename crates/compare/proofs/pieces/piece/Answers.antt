@@ -1,7 +1,6 @@
 use mathlib.Core.Path.{refl}
 use Rattle.compare.proofs.SweepLaws.{put-words, put-long, piece-long, piece-full, piece-more}
 use native.Mathlib.Omega.{arith}
-use borrow.Author.Rules.{rules}
 use Rattle.compare.proofs.pieces.piece.Goals as goal
 
 pub overflow_sub-count : goal.overflow_sub-count

@@ -1,5 +1,4 @@
 use Rattle.compare.proofs.DoneLaws.{compare-without}
-use borrow.Author.Rules.{rules}
 use Rattle.compare.proofs.portions.compare.Goals as goal
 
 pub returns : goal.returns

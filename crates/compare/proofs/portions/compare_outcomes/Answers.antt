@@ -2,7 +2,6 @@ use mathlib.Core.Path.{sym, ap, ◌∙◌}
 use Rattle.rules.specs.Replies.{verdict_reply}
 use Rattle.compare_check.proofs.OrderLaws.{comparison-ready}
 use Rattle.compare.proofs.DoneLaws.{stopped, went_on}
-use borrow.Author.Rules.{rules}
 use Rattle.compare.proofs.portions.compare_outcomes.Goals as goal
 
 pub returns-in-Refused : goal.returns-in-Refused

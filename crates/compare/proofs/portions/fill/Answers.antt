@@ -8,7 +8,6 @@ use Rattle.compare.proofs.EngineBlocks.{first_block}
 use Rattle.compare.proofs.SweepSteps.{block-valid, ask-at, ask-none, known_at, known-none}
 use Rattle.compare.proofs.SweepLaws.{swept_all, fill-going, fill-full, ending-halves}
 use native.Mathlib.Omega.{arith}
-use borrow.Author.Rules.{rules}
 use Rattle.compare.proofs.portions.fill.Goals as goal
 
 pub above-requires : goal.above-requires

@@ -1,6 +1,5 @@
-use Prim.Native.Nat.{ℕ, ◌+◌, ◌-◌, ◌^◌, ◌<◌}
+use Prim.Native.Nat.{◌+◌, ◌^◌}
 use mathlib.Core.Path.{refl, sym, ◌∙◌}
-use mathlib.Core.Logic.{⊎_elim}
 use Rattle.words.specs.Halves.{num}
 use Rattle.words.specs.Slices.{words_of}
 use Rattle.words.proofs.Tests.{eqb_yes, no_eqb}
@@ -9,9 +8,8 @@ use Rattle.compare.specs.EngineSets.{answer_of}
 use Rattle.compare.specs.Sweep.{Sweeps}
 use Rattle.compare.proofs.EngineBlocks.{block-few}
 use Rattle.compare.proofs.EngineMembers.{none-member}
-use Rattle.compare.proofs.SweepSteps.{block-valid, block_last, known_at, known-none, goes-piece, goes_parts, block-piece, block-parts, swept_as, Partway, parts-start, parts-less, parts-few, parts-room, parts-stop, parts-end, parts_next}
+use Rattle.compare.proofs.SweepSteps.{block-valid, block_last, known_at, known-none, goes-piece, goes_parts, block-piece, block-parts, swept_as, parts-start, parts-less, parts-few, parts-room, parts-stop, parts-end, parts_next}
 use native.Mathlib.Omega.{arith}
-use borrow.Author.Rules.{rules}
 use Rattle.compare.proofs.sweep.+sweep_sweep_parts.Goals as goal
 use Rattle.compare.proofs.sweep.+sweep_sweep_parts.Goals.{sweep_parts-in-At+in-Going, sweep_parts-in_default}
 
@@ -50,19 +48,22 @@ pub sweep_parts-returns-in_default-swept : goal.sweep_parts-returns-in_default-s
 sweep_parts-returns-in_default-swept t c = parts-stop _ _ _ c.args.p c.requires.2 _ _ _ _ _ _ _ _ _ _ _ c.loop-h.invariant _ _ _ _ _ c.sweep-swept.ensures c.in_default-swept.is
 
 pub sweep_parts-returns-then-same : goal.sweep_parts-returns-then-same
-sweep_parts-returns-then-same t c = let part-swept : let a = c.args in let l = c.loop-h in Sweeps (answer_of (words_of a.oc.now) (words_of a.ov.now) a.od.now a.ol.now a.om) (answer_of (words_of a.nc.now) (words_of a.nv.now) a.nd.now a.nl.now a.nm) (num a.start) (num l.part.value) (num l.part.value + 2 ^ a.p.k) l.first l.last l.old_answer l.new_answer c.match-found.first c.match-found.last c.match-found.old_answer c.match-found.new_answer l.m (Going c.match-found.m) = elim c.match-found.branch [ sweep_parts-in-At+in-Going v ↦ swept_as _ _ _ _ _ _ _ _ _ _ v.sweep-swept.ensures v.in-Going.is v.first-is v.last-is v.old_answer-is v.new_answer-is v.m-is
-    | sweep_parts-in_default v ↦ swept_as _ _ _ _ _ _ _ _ _ _
-    (known-none _ _ _ _ _ _ c.ask-found.ensures v.in_default.is (omega arith) _ _ _ _ _
-    (parts-few _ _ _ _ c.requires.2 _ _ _ _ _ _ _ _ _ _ _ c.loop-h.invariant)) refl v.first-is v.last-is v.old_answer-is v.new_answer-is v.m-is ] in
+sweep_parts-returns-then-same t c = let part-swept : let a = c.args in let l = c.loop-h in Sweeps (answer_of (words_of a.oc.now) (words_of a.ov.now) a.od.now a.ol.now a.om) (answer_of (words_of a.nc.now) (words_of a.nv.now) a.nd.now a.nl.now a.nm) (num a.start) (num l.part.value) (num l.part.value + 2 ^ a.p.k) l.first l.last l.old_answer l.new_answer c.match-found.first c.match-found.last c.match-found.old_answer c.match-found.new_answer l.m (Going c.match-found.m) = elim c.match-found.branch [
+  | sweep_parts-in-At+in-Going v ↦ swept_as _ _ _ _ _ _ _ _ _ _ v.sweep-swept.ensures v.in-Going.is v.first-is v.last-is v.old_answer-is v.new_answer-is v.m-is
+  | sweep_parts-in_default v ↦ swept_as _ _ _ _ _ _ _ _ _ _
+      (known-none _ _ _ _ _ _ c.ask-found.ensures v.in_default.is (omega arith) _ _ _ _ _
+      (parts-few _ _ _ _ c.requires.2 _ _ _ _ _ _ _ _ _ _ _ c.loop-h.invariant)) refl v.first-is v.last-is v.old_answer-is v.new_answer-is v.m-is
+] in
     parts-end _ _ _ c.args.p c.requires.2 _ _ _ _ _ _ _ _ _ _ _ c.loop-h.invariant _ _ _ _ _ (part-swept) (eqb_yes _ _ (sym c.same.ensures ∙ c.if-same.true)) _ refl
 
 pub sweep_parts-loop-h-smaller : goal.sweep_parts-loop-h-smaller
 sweep_parts-loop-h-smaller t c = parts-less _ _ _ c.args.p c.requires.2 _ _ _ _ _ _ _ _ _ _ _ c.loop-h.invariant (no_eqb _ _ (sym c.same.ensures ∙ c.if-same.false)) _ refl
 
 pub sweep_parts-loop-h-preserved : goal.sweep_parts-loop-h-preserved
-sweep_parts-loop-h-preserved t c = let part-swept : let a = c.args in let l = c.loop-h in Sweeps (answer_of (words_of a.oc.now) (words_of a.ov.now) a.od.now a.ol.now a.om) (answer_of (words_of a.nc.now) (words_of a.nv.now) a.nd.now a.nl.now a.nm) (num a.start) (num l.part.value) (num l.part.value + 2 ^ a.p.k) l.first l.last l.old_answer l.new_answer c.match-found.first c.match-found.last c.match-found.old_answer c.match-found.new_answer l.m (Going c.match-found.m) = elim c.match-found.branch [ sweep_parts-in-At+in-Going v ↦ swept_as _ _ _ _ _ _ _ _ _ _ v.sweep-swept.ensures v.in-Going.is v.first-is v.last-is v.old_answer-is v.new_answer-is v.m-is
-    | sweep_parts-in_default v ↦ swept_as _ _ _ _ _ _ _ _ _ _
-    (known-none _ _ _ _ _ _ c.ask-found.ensures v.in_default.is (omega arith) _ _ _ _ _
-    (parts-few _ _ _ _ c.requires.2 _ _ _ _ _ _ _ _ _ _ _ c.loop-h.invariant)) refl v.first-is v.last-is v.old_answer-is v.new_answer-is v.m-is ] in
+sweep_parts-loop-h-preserved t c = let part-swept : let a = c.args in let l = c.loop-h in Sweeps (answer_of (words_of a.oc.now) (words_of a.ov.now) a.od.now a.ol.now a.om) (answer_of (words_of a.nc.now) (words_of a.nv.now) a.nd.now a.nl.now a.nm) (num a.start) (num l.part.value) (num l.part.value + 2 ^ a.p.k) l.first l.last l.old_answer l.new_answer c.match-found.first c.match-found.last c.match-found.old_answer c.match-found.new_answer l.m (Going c.match-found.m) = elim c.match-found.branch [
+  | sweep_parts-in-At+in-Going v ↦ swept_as _ _ _ _ _ _ _ _ _ _ v.sweep-swept.ensures v.in-Going.is v.first-is v.last-is v.old_answer-is v.new_answer-is v.m-is
+  | sweep_parts-in_default v ↦ swept_as _ _ _ _ _ _ _ _ _ _
+      (known-none _ _ _ _ _ _ c.ask-found.ensures v.in_default.is (omega arith) _ _ _ _ _
+      (parts-few _ _ _ _ c.requires.2 _ _ _ _ _ _ _ _ _ _ _ c.loop-h.invariant)) refl v.first-is v.last-is v.old_answer-is v.new_answer-is v.m-is
+] in
     parts_next _ _ _ c.args.p c.requires.2 _ _ _ _ _ _ _ _ _ _ _ c.loop-h.invariant _ _ _ _ _ (part-swept) (no_eqb _ _ (sym c.same.ensures ∙ c.if-same.false)) _ refl _ refl refl
-

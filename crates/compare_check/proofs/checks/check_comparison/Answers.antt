@@ -1,7 +1,6 @@
 use mathlib.Core.Path.{sym, ap₂, ◌∙◌}
 use Rattle.rules.specs.Replies.{◌then◌}
 use Rattle.compare_check.proofs.OrderLaws.{in_order}
-use borrow.Author.Rules.{rules}
 use Rattle.compare_check.proofs.checks.check_comparison.Goals as goal
 
 pub returns : goal.returns

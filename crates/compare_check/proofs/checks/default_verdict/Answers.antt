@@ -1,7 +1,6 @@
 use mathlib.Core.Path.{sym, ◌∙◌}
 use native.Mathlib.Omega.{arith}
 use Rattle.compare_check.proofs.OrderLaws.{default-absent, default-refused, default-taken}
-use borrow.Author.Rules.{rules}
 use Rattle.compare_check.proofs.checks.default_verdict.Goals as goal
 
 pub returns-then-d : goal.returns-then-d

@@ -1,6 +1,5 @@
 use mathlib.Core.Path.{ap₂, ◌∙◌}
 use Rattle.rules.specs.Replies.{◌then◌}
-use borrow.Author.Rules.{rules}
 use Rattle.compare_check.proofs.checks.lists_verdict.Goals as goal
 
 pub returns : goal.returns

@@ -1,8 +1,5 @@
 use mathlib.Core.Path.{sym, ◌∙◌}
-use Rattle.words.proofs.Tests.{not-true}
-use borrow.Author.Tests.{not-false}
 use Rattle.compare_check.proofs.PortionLaws.{portion-six, portion-two-lasts, portion-two-odd, portion-two-olds, portion-two-news, portion-seven, portion-fine}
-use borrow.Author.Rules.{rules}
 use Rattle.compare_check.proofs.checks.portion_verdict.Goals as goal
 
 pub returns-then-not-below : goal.returns-then-not-below

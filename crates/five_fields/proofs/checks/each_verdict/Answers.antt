@@ -1,12 +1,8 @@
 use Rattle.five_fields.proofs.CheckLaws.{left-pass, left-stop, left_end}
 use Rattle.five_fields.proofs.ListLaws.{rules-all}
 use Rattle.five_fields.specs.Calls.{five_field_check, five_fields_check}
-use borrow.Author.Rules.{rules}
-use lib.ListN.{length}
 use native.Mathlib.Omega.{arith}
-use Prim.Native.Nat.{◌+◌, ◌-◌, ◌≤◌}
-use mathlib.Core.Path.{◌≡◌, sym, ap, ◌∙◌}
-use Rattle.five_fields.specs.Slices.{slices, rules_from, rules_in}
+use mathlib.Core.Path.{sym, ap, ◌∙◌}
 use Rattle.five_fields.proofs.checks.each_verdict.Goals as goal
 
 pub loop-i-init : goal.loop-i-init
@@ -24,9 +20,9 @@ overflow_add-i-in-loop-i c = omega (arith, c.loop-i-test.true, c.well_formed.1.1
 
 pub loop-i-preserved : goal.loop-i-preserved
 loop-i-preserved c = let o = c.loop-i in (
-      omega arith,
-      o.invariant.1 ∙ left-pass _ o.i _ c.rule_verdict-v.result c.loop-i-test.true (c.rule_verdict-v.ensures ∙ ap (five_field_check _) c.rule_at-rule.ensures) c.in-Fine.is,
-    )
+  omega arith,
+  o.invariant.1 ∙ left-pass _ o.i _ c.rule_verdict-v.result c.loop-i-test.true (c.rule_verdict-v.ensures ∙ ap (five_field_check _) c.rule_at-rule.ensures) c.in-Fine.is,
+)
 
 pub returns : goal.returns
 returns c = let o = c.loop-i in

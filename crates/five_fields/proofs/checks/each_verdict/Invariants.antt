@@ -1,11 +1,7 @@
-use Rattle.five_fields.proofs.CheckLaws.{left-pass, left-stop, left_end}
-use Rattle.five_fields.proofs.ListLaws.{rules-all}
-use Rattle.five_fields.specs.Calls.{five_field_check, five_fields_check}
-use borrow.Author.Rules.{rules}
+use Rattle.five_fields.specs.Calls.{five_fields_check}
 use lib.ListN.{length}
-use native.Mathlib.Omega.{arith}
 use Prim.Native.Nat.{◌+◌, ◌-◌, ◌≤◌}
-use mathlib.Core.Path.{◌≡◌, sym, ap, ◌∙◌}
+use mathlib.Core.Path.{◌≡◌}
 use Rattle.five_fields.specs.Slices.{slices, rules_from, rules_in}
 use Rattle.five_fields.proofs.checks.each_verdict.Given as goal
 

@@ -1,7 +1,6 @@
 use mathlib.Core.Path.{sym, ◌∙◌}
 use Rattle.words.proofs.Tests.{and-on, and-off}
 use Rattle.five_fields.specs.FiveFieldRules.{fields_fit}
-use borrow.Author.Rules.{rules}
 use Rattle.five_fields.proofs.checks.fields_fit.Goals as goal
 
 pub returns-then-is_prefix-2 : goal.returns-then-is_prefix-2

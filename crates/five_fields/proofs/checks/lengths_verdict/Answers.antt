@@ -1,8 +1,6 @@
 use Rattle.five_fields.proofs.CheckLaws.{each-threes, lengths-two, lengths-three, lengths-fine}
 use Rattle.words.proofs.Tests.{true-and, and-on, and-off}
-use borrow.Author.Tests.{not-true, not-false}
 use mathlib.Core.Path.{sym, ◌∙◌}
-use borrow.Author.Rules.{rules}
 use Rattle.five_fields.proofs.checks.lengths_verdict.Goals as goal
 
 pub returns-then-not-three_are : goal.returns-then-not-three_are

@@ -1,5 +1,4 @@
 use Rattle.five_fields.proofs.ListLaws.{rule-read}
-use borrow.Author.Rules.{rules}
 use Rattle.five_fields.proofs.checks.rule_at.Goals as goal
 
 pub returns : goal.returns

@@ -1,8 +1,7 @@
 use mathlib.Core.Path.{sym, ◌∙◌}
-use borrow.Author.Tests.{not-true, not-false, lt-ltb, le-ltb}
+use borrow.Author.Tests.{lt-ltb, le-ltb}
 use Rattle.rules.proofs.ReplyLaws.{need-yes, need-no}
 use Rattle.five_fields.proofs.CheckLaws.{check-fields, check-ports, check-decision, source-no, destination-no, both_yes}
-use borrow.Author.Rules.{rules}
 use Rattle.five_fields.proofs.checks.rule_verdict.Goals as goal
 
 pub returns-then-not-fields_fit : goal.returns-then-not-fields_fit

@@ -2,7 +2,6 @@ use Rattle.five_fields.specs.Slices.{alike}
 use Rattle.five_fields.proofs.CheckLaws.{check-parts}
 use Rattle.rules.proofs.ReplyLaws.{verdict-stop, fine-next}
 use mathlib.Core.Path.{sym, ◌∙◌}
-use borrow.Author.Rules.{rules}
 use Rattle.five_fields.proofs.checks.rules_verdict.Goals as goal
 
 pub returns-in_default : goal.returns-in_default

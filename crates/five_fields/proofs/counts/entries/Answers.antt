@@ -4,10 +4,9 @@ use Rattle.five_fields.proofs.ListLaws.{rules-all}
 use Rattle.five_fields.specs.Expansion.{expansion, expanded}
 use Rattle.five_fields.specs.FiveFieldRules.{ports_fit}
 use Rattle.five_fields.specs.FiveFieldRule.{FiveFieldRule, rule_of}
-use borrow.Author.Rules.{rules}
 use lib.ListN.{length}
 use native.Mathlib.Omega.{arith}
-use Prim.Native.Nat.{◌+◌, ◌-◌, ◌≤◌}
+use Prim.Native.Nat.{◌-◌}
 use mathlib.Core.Path.{◌≡◌, ap, ◌∙◌}
 use mathlib.Core.List.{List}
 use Rattle.five_fields.specs.Slices.{slices, rule_at, rules_from, rules_in}

@@ -1,16 +1,8 @@
-use Rattle.five_fields.proofs.CountLaws.{sound-most, left-count, left-none}
-use Rattle.five_fields.proofs.CheckLaws.{rules-sound, good-at, good-ports}
-use Rattle.five_fields.proofs.ListLaws.{rules-all}
-use Rattle.five_fields.specs.Expansion.{expansion, expanded}
-use Rattle.five_fields.specs.FiveFieldRules.{ports_fit}
-use Rattle.five_fields.specs.FiveFieldRule.{FiveFieldRule, rule_of}
-use borrow.Author.Rules.{rules}
+use Rattle.five_fields.specs.Expansion.{expanded}
 use lib.ListN.{length}
-use native.Mathlib.Omega.{arith}
 use Prim.Native.Nat.{◌+◌, ◌-◌, ◌≤◌}
-use mathlib.Core.Path.{◌≡◌, ap, ◌∙◌}
-use mathlib.Core.List.{List}
-use Rattle.five_fields.specs.Slices.{slices, rule_at, rules_from, rules_in}
+use mathlib.Core.Path.{◌≡◌}
+use Rattle.five_fields.specs.Slices.{slices, rules_from, rules_in}
 use Rattle.five_fields.proofs.counts.entries.Given as goal
 
 abbrev pub invariant-loop-i : goal.invariant-loop-i

@@ -1,6 +1,5 @@
 use Rattle.five_fields.proofs.CountLaws.{count-refused, count-over, count-given}
 use Rattle.rules.proofs.ReplyLaws.{verdict-passed}
-use borrow.Author.Rules.{rules}
 use Rattle.five_fields.proofs.counts.expansion_count.Goals as goal
 
 pub returns-in-Refused : goal.returns-in-Refused

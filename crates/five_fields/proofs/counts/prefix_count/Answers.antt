@@ -1,5 +1,4 @@
 use Rattle.five_fields.proofs.CountLaws.{ports-counted, ports-refused}
-use borrow.Author.Rules.{rules}
 use Rattle.five_fields.proofs.counts.prefix_count.Goals as goal
 
 pub returns-in-Prefixes : goal.returns-in-Prefixes

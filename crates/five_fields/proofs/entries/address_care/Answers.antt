@@ -2,7 +2,6 @@ use Rattle.five_numbers.specs.Fields.{address_bits}
 use lib.Pow.{pow_mono, pow_pos}
 use native.Mathlib.Omega.{arith}
 use Prim.Native.Nat.{◌-◌, ◌≤◌, ◌^◌}
-use borrow.Author.Rules.{rules}
 use Rattle.five_fields.proofs.entries.address_care.Goals as goal
 
 pub overflow_sub-result : goal.overflow_sub-result

@@ -1,5 +1,4 @@
 use Rattle.five_fields.proofs.EntryLaws.{word-given, word-never}
-use borrow.Author.Rules.{rules}
 use Rattle.five_fields.proofs.entries.joined.Goals as goal
 
 pub returns-in-Header : goal.returns-in-Header

@@ -1,10 +1,5 @@
-use Rattle.five_fields.proofs.PutLaws.{Putting, putting-all, putting-some, putting-none, put_one, inside-next, inside-none}
-use Rattle.five_fields.specs.Inner.{entries_inside}
-use Rattle.five_fields.specs.FiveFieldRule.{rule_of}
-use borrow.Author.Rules.{rules}
-use lib.ListN.{take, drop}
+use Rattle.five_fields.proofs.PutLaws.{putting-all, putting-some, putting-none, put_one, inside-next, inside-none}
 use native.Mathlib.Omega.{arith}
-use Prim.Native.Nat.{◌+◌, ◌-◌, ◌≤◌}
 use mathlib.Core.Path.{refl}
 use Rattle.five_fields.proofs.entries.put_inside.Goals as goal
 

@@ -1,13 +1,10 @@
-use Rattle.five_fields.proofs.PutLaws.{Putting, putting-all, putting-some, putting-none, pairs_next, pairs-none, inside-length}
+use Rattle.five_fields.proofs.PutLaws.{putting-all, putting-some, putting-none, pairs_next, pairs-none, inside-length}
 use Rattle.five_fields.proofs.ListLaws.{row_within, row_next}
-use Rattle.five_fields.specs.Inner.{entries_by}
 use Rattle.five_fields.specs.FiveFieldRule.{rule_of}
 use Rattle.rules.proofs.SliceLaws.{kept-lent}
-use borrow.Author.Rules.{rules}
 use lib.Seq.{length-take-le}
-use lib.ListN.{take, drop, get_or}
+use lib.ListN.{take, get_or}
 use native.Mathlib.Omega.{arith}
-use Prim.Native.Nat.{◌+◌, ◌*◌, ◌-◌, ◌≤◌}
 use mathlib.Core.Path.{refl}
 use Rattle.five_fields.proofs.entries.put_pairs.Goals as goal
 

@@ -4,7 +4,6 @@ use Rattle.rules.proofs.CheckLaws.{results-room}
 use Rattle.rules.proofs.ReplyLaws.{verdict-passed}
 use Rattle.rules.specs.Checks.{lengths_check}
 use native.Mathlib.Omega.{arith}
-use borrow.Author.Rules.{rules}
 use Rattle.five_fields.proofs.expansions.expand.Goals as goal
 
 pub returns-in_default : goal.returns-in_default

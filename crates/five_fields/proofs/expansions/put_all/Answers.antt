@@ -1,12 +1,9 @@
-use Rattle.five_fields.proofs.PutLaws.{Expanding, expanding-none, expanding-room, expanding-next, expanding-done}
+use Rattle.five_fields.proofs.PutLaws.{expanding-none, expanding-room, expanding-next, expanding-done}
 use Rattle.five_fields.proofs.CheckLaws.{rules-sound, good-at, good-fields, good-ports}
 use Rattle.five_fields.specs.Slices.{slices}
 use Rattle.five_fields.specs.FiveFieldRules.{fields_fit, ports_fit}
 use Rattle.rules.proofs.SliceLaws.{kept-lent}
-use borrow.Author.Rules.{rules}
-use lib.ListN.{length}
 use native.Mathlib.Omega.{arith}
-use Prim.Native.Nat.{◌-◌}
 use mathlib.Core.Path.{ap, ◌∙◌}
 use Rattle.five_fields.proofs.expansions.put_all.Goals as goal
 

@@ -1,5 +1,4 @@
 use Rattle.five_fields.proofs.CountLaws.{ports-put, ports-never}
-use borrow.Author.Rules.{rules}
 use Rattle.five_fields.proofs.expansions.put_ports.Goals as goal
 
 pub returns-in-Prefixes : goal.returns-in-Prefixes

@@ -3,7 +3,6 @@ use Rattle.rules.proofs.ReplyLaws.{then_next, then-refuses, need-yes, need-no}
 use Rattle.words.proofs.Tests.{true-and, and-on, and-off}
 use borrow.Author.Tests.{eq-eqb, ne_eqb}
 use mathlib.Core.Path.{sym, ◌∙◌}
-use borrow.Author.Rules.{rules}
 use Rattle.five_fields.proofs.expansions.results_verdict.Goals as goal
 
 pub returns-then-cares-values : goal.returns-then-cares-values

@@ -3,7 +3,6 @@ use Rattle.five_numbers.proofs.FieldLaws.{in-fields}
 use Rattle.five_numbers.specs.declared.Built.{Built}
 use Rattle.words.specs.declared.Word.{Word}
 use mathlib.Core.Path.{sym, ap, ◌∙◌}
-use borrow.Author.Rules.{rules}
 use Rattle.five_numbers.proofs.headers.header.Goals as goal
 
 pub joined-word-requires : goal.joined-word-requires

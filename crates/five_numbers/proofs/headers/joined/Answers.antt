@@ -1,5 +1,4 @@
 use Rattle.five_numbers.proofs.FieldLaws.{joined_made}
-use borrow.Author.Rules.{rules}
 use Rattle.five_numbers.proofs.headers.joined.Goals as goal
 
 pub returns : goal.returns

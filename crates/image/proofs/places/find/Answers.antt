@@ -1,15 +1,10 @@
-use mathlib.Core.Path.{◌≡◌, sym, ◌∙◌}
-use Prim.Native.Nat.{◌+◌, ◌*◌, ◌≤◌}
+use mathlib.Core.Path.{sym, ◌∙◌}
 use native.Mathlib.Omega.{arith}
-use lib.ListN.{length, drop}
-use Rattle.image_form.specs.Formats.{rule_size}
-use Rattle.image_form.specs.Images.{format_in, entries_in, total}
+use Rattle.image_form.specs.Images.{format_in}
 use Rattle.image_form.proofs.FormatLaws.{layout-body}
 use Rattle.image_form.proofs.PartLaws.{entry-got}
 use Rattle.image_check.proofs.StepLaws.{total-start, size_step}
-use Rattle.image.specs.Places.{place_of, place_in}
 use Rattle.image.proofs.SeekLaws.{place_is, place-start, place_here, place-on, place_end}
-use borrow.Author.Rules.{rules}
 use Rattle.image.proofs.places.find.Goals as goal
 
 pub loop-left-init : goal.loop-left-init

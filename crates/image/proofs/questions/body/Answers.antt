@@ -1,11 +1,10 @@
 use native.Mathlib.Omega.{arith}
 use mathlib.Core.Path.{ap, ◌∙◌}
-use Prim.Native.Nat.{ℕ, ◌-◌}
+use Prim.Native.Nat.{ℕ}
 use native.Mathlib.Nat.{add-sub_cancel_left}
 use Rattle.image_form.specs.Bytes.{part}
 use Rattle.image_form.proofs.FormatLaws.{layout-body}
 use Rattle.image.proofs.SeekLaws.{body-none, body-found, id-facts}
-use borrow.Author.Rules.{rules}
 use Rattle.image.proofs.questions.body.Goals as goal
 
 pub returns-in_default : goal.returns-in_default

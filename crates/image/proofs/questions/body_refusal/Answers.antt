@@ -1,7 +1,5 @@
 use mathlib.Core.Path.{◌∙◌}
-use Prim.Native.Nat.{◌-◌}
 use Rattle.image.proofs.SeekLaws.{id-image, id-found, id-none, fine-facts}
-use borrow.Author.Rules.{rules}
 use Rattle.image.proofs.questions.body_refusal.Goals as goal
 
 pub returns-in_default : goal.returns-in_default

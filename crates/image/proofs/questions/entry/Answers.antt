@@ -5,7 +5,6 @@ use Rattle.image_form.proofs.PartLaws.{entry-got}
 use Rattle.image.specs.Calls.{entry_reply}
 use Rattle.image.proofs.SeekLaws.{fine-facts}
 use Rattle.image.proofs.AskLaws.{entry-below, entry-above, entry-told}
-use borrow.Author.Rules.{rules}
 use Rattle.image.proofs.questions.entry.Goals as goal
 
 pub returns-in-Refused : goal.returns-in-Refused

@@ -4,7 +4,6 @@ use mathlib.Core.List.{[], ◌∷◌}
 use Rattle.rules.specs.Replies.{Gives}
 use Rattle.rules.proofs.ReplyLaws.{fine-next, refused-stop}
 use Rattle.image.specs.Calls.{format_reply}
-use borrow.Author.Rules.{rules}
 use Rattle.image.proofs.questions.format.Goals as goal
 
 pub returns-in-Refused : goal.returns-in-Refused

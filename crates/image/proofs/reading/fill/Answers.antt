@@ -1,11 +1,8 @@
 use Rattle.image_form.specs.Formats.{rule_size}
 use Rattle.image_form.proofs.FormatLaws.{times-less, layout-rule}
 use Rattle.image_form.proofs.PartLaws.{rule-got}
-use mathlib.Core.Path.{◌≡◌}
-use Prim.Native.Nat.{◌+◌, ◌-◌, ◌*◌, ◌≤◌}
 use native.Mathlib.Omega.{arith}
-use Rattle.image.proofs.SeekLaws.{Filling, filling-start, filling-turn, filling-end}
-use borrow.Author.Rules.{rules}
+use Rattle.image.proofs.SeekLaws.{filling-start, filling-turn, filling-end}
 use Rattle.image.proofs.reading.fill.Goals as goal
 
 pub loop-i-init : goal.loop-i-init
@@ -16,12 +13,11 @@ overflow_add-at c = let o = c.loop-i in
     omega (arith, c.well_formed, layout-rule c.args.format _ c.layout-rule.ensures, times-less (rule_size c.args.format) c.args.count o.i (omega arith))
 
 pub loop-i-preserved : goal.loop-i-preserved
-loop-i-preserved c = let o = c.loop-i in
-    (
-      omega (arith, o.invariant.0, layout-rule _ _ c.layout-rule.ensures),
-      omega arith,
-      filling-turn _ c.args.b.now c.args.from o.at o.i _ _ _ _ _ _ _ _ _ _ (omega arith) c.requires.2 o.invariant.2 o.invariant.0 (rule-got _ _ _ _ c.rule_in.ensures (omega (arith, o.invariant.0, times-less (rule_size c.args.format) c.args.count o.i (omega arith)))) c.put_rule.ensures,
-    )
+loop-i-preserved c = let o = c.loop-i in (
+  omega (arith, o.invariant.0, layout-rule _ _ c.layout-rule.ensures),
+  omega arith,
+  filling-turn _ c.args.b.now c.args.from o.at o.i _ _ _ _ _ _ _ _ _ _ (omega arith) c.requires.2 o.invariant.2 o.invariant.0 (rule-got _ _ _ _ c.rule_in.ensures (omega (arith, o.invariant.0, times-less (rule_size c.args.format) c.args.count o.i (omega arith)))) c.put_rule.ensures,
+)
 
 pub shape_of-care : goal.shape_of-care
 shape_of-care c = c.loop-i.invariant.2.kept.cares

@@ -1,11 +1,7 @@
 use Rattle.image_form.specs.Formats.{rule_size}
-use Rattle.image_form.proofs.FormatLaws.{times-less, layout-rule}
-use Rattle.image_form.proofs.PartLaws.{rule-got}
 use mathlib.Core.Path.{◌≡◌}
 use Prim.Native.Nat.{◌+◌, ◌-◌, ◌*◌, ◌≤◌}
-use native.Mathlib.Omega.{arith}
-use Rattle.image.proofs.SeekLaws.{Filling, filling-start, filling-turn, filling-end}
-use borrow.Author.Rules.{rules}
+use Rattle.image.proofs.SeekLaws.{Filling}
 use Rattle.image.proofs.reading.fill.Given as goal
 
 abbrev pub invariant-loop-i : goal.invariant-loop-i

@@ -1,9 +1,7 @@
 use mathlib.Core.Path.{refl}
-use Prim.Native.Nat.{◌-◌}
 use native.Mathlib.Omega.{arith}
 use Rattle.image.proofs.SeekLaws.{id-facts}
 use Rattle.image.proofs.AskLaws.{read-refuses, read-gives, read-id, read-values, read-decisions, read-room, read_told, list_at}
-use borrow.Author.Rules.{rules}
 use Rattle.image.proofs.reading.read.Goals as goal
 
 pub returns-in-Refused : goal.returns-in-Refused

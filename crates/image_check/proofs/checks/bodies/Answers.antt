@@ -1,23 +1,18 @@
-use mathlib.Core.Path.{◌≡◌, sym, ◌∙◌}
-use Prim.Native.Nat.{◌+◌, ◌*◌, ◌≤◌}
+use mathlib.Core.Path.{sym, ◌∙◌}
 use native.Mathlib.Omega.{arith}
-use lib.ListN.{length, drop}
-use Rattle.image_form.specs.Formats.{rule_size}
-use Rattle.image_form.specs.Images.{entries_in, lists_in, total, format_in}
+use Rattle.image_form.specs.Images.{format_in}
 use Rattle.image_form.proofs.FormatLaws.{layout-body}
 use Rattle.image_form.proofs.PartLaws.{entry-got}
-use Rattle.image_check.specs.Checks.{bodies_check, lists_check}
 use Rattle.image_check.proofs.StepLaws.{lists-stop, lists-pass, lists-end, size_step, total-start, bodies-start}
-use borrow.Author.Rules.{rules}
 use Rattle.image_check.proofs.checks.bodies.Goals as goal
 
 pub loop-left-init : goal.loop-left-init
 loop-left-init c = (
-      omega arith,
-      omega arith,
-      total-start c.args.b.now _ c.byte_at-left.ensures.0 c.requires.4,
-      bodies-start c.args.b.now _ _ c.byte_at-width.ensures.0 c.byte_at-left.ensures.0,
-    )
+  omega arith,
+  omega arith,
+  total-start c.args.b.now _ c.byte_at-left.ensures.0 c.requires.4,
+  bodies-start c.args.b.now _ _ c.byte_at-width.ensures.0 c.byte_at-left.ensures.0,
+)
 
 pub rules_at-v-requires : goal.rules_at-v-requires
 rules_at-v-requires c = let o = c.loop-left in

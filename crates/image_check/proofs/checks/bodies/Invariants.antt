@@ -1,14 +1,9 @@
-use mathlib.Core.Path.{◌≡◌, sym, ◌∙◌}
+use mathlib.Core.Path.{◌≡◌}
 use Prim.Native.Nat.{◌+◌, ◌*◌, ◌≤◌}
-use native.Mathlib.Omega.{arith}
 use lib.ListN.{length, drop}
 use Rattle.image_form.specs.Formats.{rule_size}
-use Rattle.image_form.specs.Images.{entries_in, lists_in, total, format_in}
-use Rattle.image_form.proofs.FormatLaws.{layout-body}
-use Rattle.image_form.proofs.PartLaws.{entry-got}
+use Rattle.image_form.specs.Images.{entries_in, lists_in, total}
 use Rattle.image_check.specs.Checks.{bodies_check, lists_check}
-use Rattle.image_check.proofs.StepLaws.{lists-stop, lists-pass, lists-end, size_step, total-start, bodies-start}
-use borrow.Author.Rules.{rules}
 use Rattle.image_check.proofs.checks.bodies.Given as goal
 
 abbrev pub invariant-loop-left : goal.invariant-loop-left

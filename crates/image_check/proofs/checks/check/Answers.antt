@@ -1,9 +1,7 @@
 use mathlib.Core.Path.{ap, sym, ◌∙◌}
-use Prim.Native.Nat.{◌-◌}
 use Rattle.image_check.proofs.StepLaws.{image-head, image-contents, image-bodies, contents-total}
 use Rattle.image_check.proofs.HeadLaws.{head-facts, head-narrow}
 use Rattle.rules.specs.Replies.{verdict_reply}
-use borrow.Author.Rules.{rules}
 use Rattle.image_check.proofs.checks.check.Goals as goal
 
 pub returns-in_default : goal.returns-in_default

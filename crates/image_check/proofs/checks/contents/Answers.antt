@@ -1,13 +1,9 @@
-use mathlib.Core.Path.{◌≡◌, sym, ◌∙◌}
-use Prim.Native.Nat.{◌+◌, ◌*◌, ◌≤◌}
+use mathlib.Core.Path.{sym, ◌∙◌}
 use native.Mathlib.Omega.{arith}
-use lib.ListN.{length, drop}
-use Rattle.image_form.specs.Images.{entries_in}
+use lib.ListN.{length}
 use Rattle.image_form.proofs.FormatLaws.{layout-body}
 use Rattle.image_form.proofs.PartLaws.{entry-got}
-use Rattle.image_check.specs.Checks.{entries_check, contents_check}
 use Rattle.image_check.proofs.StepLaws.{entries-stop, entries-pass, entries-bad, entries-end, next_fits, contents-start}
-use borrow.Author.Rules.{rules}
 use Rattle.image_check.proofs.checks.contents.Goals as goal
 
 pub loop-left-init : goal.loop-left-init

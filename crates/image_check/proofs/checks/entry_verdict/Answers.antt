@@ -2,7 +2,6 @@ use mathlib.Core.Path.{◌∙◌}
 use native.Mathlib.Omega.{arith}
 use Rattle.image_form.proofs.FormatLaws.{layout-body}
 use Rattle.image_check.proofs.HeadLaws.{entry-1, entry-2, entry-3, entry-4, entry-5, entry-fine}
-use borrow.Author.Rules.{rules}
 use Rattle.image_check.proofs.checks.entry_verdict.Goals as goal
 
 pub returns-then-entry-least : goal.returns-then-entry-least

@@ -1,9 +1,7 @@
 use Rattle.image_form.proofs.FormatLaws.{layout-known, layout-unknown, layout-places}
 use mathlib.Core.Path.{◌∙◌}
-use Prim.Native.Nat.{◌-◌}
 use native.Mathlib.Omega.{arith}
 use Rattle.image_check.proofs.HeadLaws.{Opened, Ranged, head-1, head-2, head-3, head-4, head-5, head-6, head-7, head-8, head-9, head-fine}
-use borrow.Author.Rules.{rules}
 use Rattle.image_check.proofs.checks.head.Goals as goal
 
 pub returns-then-b-lt4 : goal.returns-then-b-lt4
@@ -17,34 +15,34 @@ returns-then-not-layout c = c.refused-then-not-layout.ensures ∙ head-3 _ c.if-
 
 pub returns-then-b-ne0 : goal.returns-then-b-ne0
 returns-then-b-ne0 c = let opened : Opened c.args.b.now = record {
-      least = c.if-b-lt4.false;
-      most = c.if-b-gt65536.false;
-      zeroth = layout-known _ _ c.layout-layout.ensures c.if-not-layout.false;
-    } in
+  least = c.if-b-lt4.false;
+  most = c.if-b-gt65536.false;
+  zeroth = layout-known _ _ c.layout-layout.ensures c.if-not-layout.false;
+} in
     c.refused-then-b-ne0.ensures ∙ head-4 _ (opened) c.if-b-ne0.true
 
 pub returns-then-width-lt1 : goal.returns-then-width-lt1
 returns-then-width-lt1 c = let opened : Opened c.args.b.now = record {
-      least = c.if-b-lt4.false;
-      most = c.if-b-gt65536.false;
-      zeroth = layout-known _ _ c.layout-layout.ensures c.if-not-layout.false;
-    } in
+  least = c.if-b-lt4.false;
+  most = c.if-b-gt65536.false;
+  zeroth = layout-known _ _ c.layout-layout.ensures c.if-not-layout.false;
+} in
     c.refused-then-width-lt1.ensures ∙ head-5 _ (opened) c.if-b-ne0.false (omega arith)
 
 pub returns-then-width-layout : goal.returns-then-width-layout
 returns-then-width-layout c = let opened : Opened c.args.b.now = record {
-      least = c.if-b-lt4.false;
-      most = c.if-b-gt65536.false;
-      zeroth = layout-known _ _ c.layout-layout.ensures c.if-not-layout.false;
-    } in
+  least = c.if-b-lt4.false;
+  most = c.if-b-gt65536.false;
+  zeroth = layout-known _ _ c.layout-layout.ensures c.if-not-layout.false;
+} in
     c.refused-then-width-layout.ensures ∙ head-6 _ (opened) c.if-b-ne0.false (omega arith) (omega (arith, layout-places _ _ c.layout-layout.ensures))
 
 pub returns-then-lists-lt1 : goal.returns-then-lists-lt1
 returns-then-lists-lt1 c = let opened : Opened c.args.b.now = record {
-      least = c.if-b-lt4.false;
-      most = c.if-b-gt65536.false;
-      zeroth = layout-known _ _ c.layout-layout.ensures c.if-not-layout.false;
-    } in
+  least = c.if-b-lt4.false;
+  most = c.if-b-gt65536.false;
+  zeroth = layout-known _ _ c.layout-layout.ensures c.if-not-layout.false;
+} in
     let ranged : Ranged c.args.b.now = record {
       opened = opened;
       third = c.if-b-ne0.false;
@@ -55,10 +53,10 @@ returns-then-lists-lt1 c = let opened : Opened c.args.b.now = record {
 
 pub returns-then-lists-gt16 : goal.returns-then-lists-gt16
 returns-then-lists-gt16 c = let opened : Opened c.args.b.now = record {
-      least = c.if-b-lt4.false;
-      most = c.if-b-gt65536.false;
-      zeroth = layout-known _ _ c.layout-layout.ensures c.if-not-layout.false;
-    } in
+  least = c.if-b-lt4.false;
+  most = c.if-b-gt65536.false;
+  zeroth = layout-known _ _ c.layout-layout.ensures c.if-not-layout.false;
+} in
     let ranged : Ranged c.args.b.now = record {
       opened = opened;
       third = c.if-b-ne0.false;
@@ -69,10 +67,10 @@ returns-then-lists-gt16 c = let opened : Opened c.args.b.now = record {
 
 pub returns-then-lists-b : goal.returns-then-lists-b
 returns-then-lists-b c = let opened : Opened c.args.b.now = record {
-      least = c.if-b-lt4.false;
-      most = c.if-b-gt65536.false;
-      zeroth = layout-known _ _ c.layout-layout.ensures c.if-not-layout.false;
-    } in
+  least = c.if-b-lt4.false;
+  most = c.if-b-gt65536.false;
+  zeroth = layout-known _ _ c.layout-layout.ensures c.if-not-layout.false;
+} in
     let ranged : Ranged c.args.b.now = record {
       opened = opened;
       third = c.if-b-ne0.false;
@@ -83,10 +81,10 @@ returns-then-lists-b c = let opened : Opened c.args.b.now = record {
 
 pub returns : goal.returns
 returns c = let opened : Opened c.args.b.now = record {
-      least = c.if-b-lt4.false;
-      most = c.if-b-gt65536.false;
-      zeroth = layout-known _ _ c.layout-layout.ensures c.if-not-layout.false;
-    } in
+  least = c.if-b-lt4.false;
+  most = c.if-b-gt65536.false;
+  zeroth = layout-known _ _ c.layout-layout.ensures c.if-not-layout.false;
+} in
     let ranged : Ranged c.args.b.now = record {
       opened = opened;
       third = c.if-b-ne0.false;

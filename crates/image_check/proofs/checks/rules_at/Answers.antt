@@ -2,14 +2,10 @@ use Rattle.rules.proofs.SliceLaws.{told}
 use Rattle.image_form.specs.Formats.{rule_size}
 use Rattle.image_form.proofs.FormatLaws.{times-turn, layout-rule}
 use Rattle.image_form.proofs.PartLaws.{rule-got}
-use mathlib.Core.Path.{◌≡◌, refl, ap, sym, ◌∙◌}
-use Prim.Native.Nat.{◌+◌, ◌-◌, ◌*◌, ◌≤◌}
+use mathlib.Core.Path.{refl, ap, sym, ◌∙◌}
 use native.Mathlib.Omega.{arith}
-use lib.ListN.{length, drop}
 use Rattle.image_check.proofs.StepLaws.{rules-stop, rules-pass, rules-end, in-width}
-use Rattle.rules.specs.Checks.{rule_check, rules_check}
-use Rattle.image_form.specs.Images.{rules_in}
-use borrow.Author.Rules.{rules}
+use Rattle.rules.specs.Checks.{rule_check}
 use Rattle.image_check.proofs.checks.rules_at.Goals as goal
 
 pub loop-left-init : goal.loop-left-init

@@ -1,15 +1,9 @@
-use Rattle.rules.proofs.SliceLaws.{told}
 use Rattle.image_form.specs.Formats.{rule_size}
-use Rattle.image_form.proofs.FormatLaws.{times-turn, layout-rule}
-use Rattle.image_form.proofs.PartLaws.{rule-got}
-use mathlib.Core.Path.{◌≡◌, refl, ap, sym, ◌∙◌}
-use Prim.Native.Nat.{◌+◌, ◌-◌, ◌*◌, ◌≤◌}
-use native.Mathlib.Omega.{arith}
+use mathlib.Core.Path.{◌≡◌}
+use Prim.Native.Nat.{◌+◌, ◌*◌, ◌≤◌}
 use lib.ListN.{length, drop}
-use Rattle.image_check.proofs.StepLaws.{rules-stop, rules-pass, rules-end, in-width}
-use Rattle.rules.specs.Checks.{rule_check, rules_check}
+use Rattle.rules.specs.Checks.{rules_check}
 use Rattle.image_form.specs.Images.{rules_in}
-use borrow.Author.Rules.{rules}
 use Rattle.image_check.proofs.checks.rules_at.Given as goal
 
 abbrev pub invariant-loop-left : goal.invariant-loop-left

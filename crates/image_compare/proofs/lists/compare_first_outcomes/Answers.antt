@@ -1,5 +1,4 @@
 use Rattle.image_compare.proofs.CompareLaws.{first-compared}
-use borrow.Author.Rules.{rules}
 use Rattle.image_compare.proofs.lists.compare_first_outcomes.Goals as goal
 
 pub returns : goal.returns

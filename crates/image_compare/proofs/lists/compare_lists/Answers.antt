@@ -1,5 +1,4 @@
 use Rattle.image_compare.proofs.CompareLaws.{lists-without}
-use borrow.Author.Rules.{rules}
 use Rattle.image_compare.proofs.lists.compare_lists.Goals as goal
 
 pub returns : goal.returns

@@ -1,6 +1,5 @@
 use mathlib.Core.Path.{ap}
 use Rattle.image_form.specs.declared.Entry.{Entry}
-use borrow.Author.Rules.{rules}
 use Rattle.image_compare.proofs.lists.first_id.Goals as goal
 
 pub returns : goal.returns

@@ -2,7 +2,6 @@ use Prim.Native.Nat.{◌+◌}
 use Rattle.image_form.proofs.FormatLaws.{rule-words, layout-word}
 use Rattle.image_form.proofs.NumberLaws.{rule-from}
 use native.Mathlib.Omega.{arith}
-use borrow.Author.Rules.{rules}
 use Rattle.image_form.proofs.numbers.rule_here.Goals as goal
 
 pub word_in-care-requires : goal.word_in-care-requires

@@ -1,7 +1,6 @@
 use Rattle.image_form.proofs.FormatLaws.{word_two, word-least}
 use Rattle.image_form.proofs.NumberLaws.{word-narrow, word_wide}
 use native.Mathlib.Omega.{arith}
-use borrow.Author.Rules.{rules}
 use Rattle.image_form.proofs.numbers.word_in.Goals as goal
 
 pub u64_at-low-requires : goal.u64_at-low-requires

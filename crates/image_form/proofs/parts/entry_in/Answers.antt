@@ -1,7 +1,6 @@
 use mathlib.Core.Path.{sym}
 use native.Mathlib.Omega.{arith}
 use Rattle.image_form.proofs.PartLaws.{entry-made, entry-none}
-use borrow.Author.Rules.{rules}
 use Rattle.image_form.proofs.parts.entry_in.Goals as goal
 
 pub returns-then-at-b : goal.returns-then-at-b

@@ -3,7 +3,6 @@ use native.Mathlib.Omega.{arith}
 use Rattle.rules.specs.Rule.{held}
 use Rattle.image_form.proofs.FormatLaws.{layout-rule}
 use Rattle.image_form.proofs.PartLaws.{rule-there, rule-zeros}
-use borrow.Author.Rules.{rules}
 use Rattle.image_form.proofs.parts.rule_in.Goals as goal
 
 pub rule_here-requires : goal.rule_here-requires

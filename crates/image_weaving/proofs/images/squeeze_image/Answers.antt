@@ -1,6 +1,5 @@
 use Rattle.rules.proofs.ReplyLaws.{verdict-passed}
 use Rattle.image_weaving.proofs.WriteLaws.{image-refused}
-use borrow.Author.Rules.{rules}
 use Rattle.image_weaving.proofs.images.squeeze_image.Goals as goal
 
 pub squeeze_accepted-requires : goal.squeeze_accepted-requires

@@ -1,9 +1,6 @@
 use mathlib.Core.Path.{sym, ◌∙◌}
-use Prim.Native.Nat.{◌-◌, ◌≤◌}
 use native.Mathlib.Omega.{arith}
 use borrow.Author.Rules.{rules}
-use Rattle.image_form.specs.Images.{count_in}
-use Rattle.image_weaving.specs.Parts.{RoomForAll, ListsSqueezed}
 use Rattle.image_weaving.proofs.LoopLaws.{none-squeezed, up-not-refused, up-squeezed, still-ready, all-squeezed}
 use Rattle.image_weaving.proofs.images.squeeze_lists.Goals as goal
 

@@ -2,7 +2,6 @@ use mathlib.Core.Path.{ap}
 use native.Mathlib.Omega.{arith}
 use Rattle.image_form.specs.declared.Entry.{Entry}
 use Rattle.image_weaving.proofs.NextLaws.{next_place, next-room-for, next-not-refused, next_fits, next-squeezed}
-use borrow.Author.Rules.{rules}
 use Rattle.image_weaving.proofs.images.squeeze_next.Goals as goal
 
 pub overflow_mul-k : goal.overflow_mul-k

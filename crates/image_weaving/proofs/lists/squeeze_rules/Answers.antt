@@ -1,5 +1,4 @@
 use Rattle.image_weaving.proofs.OneLaws.{rules-woven}
-use borrow.Author.Rules.{rules}
 use Rattle.image_weaving.proofs.lists.squeeze_rules.Goals as goal
 
 pub returns-in-Weave : goal.returns-in-Weave

@@ -1,8 +1,6 @@
-use Prim.Native.Nat.{◌-◌}
 use native.Mathlib.Omega.{arith}
 use Rattle.image_writer.proofs.PutLaws.{put_two}
 use lib.ListN.{length-set}
-use borrow.Author.Rules.{rules}
 use Rattle.image_writer.proofs.puts.put16.Goals as goal
 
 pub bounds-out-at-2 : goal.bounds-out-at-2

@@ -1,6 +1,4 @@
-use Prim.Native.Nat.{◌-◌}
 use Rattle.image_writer.proofs.PutLaws.{put_both}
-use borrow.Author.Rules.{rules}
 use Rattle.image_writer.proofs.puts.put32.Goals as goal
 
 pub returns : goal.returns

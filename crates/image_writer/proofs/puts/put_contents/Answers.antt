@@ -1,15 +1,9 @@
-use Rattle.image_form.specs.Formats.{rule_size}
 use Rattle.image_form.proofs.FormatLaws.{layout-body}
 use mathlib.Core.Path.{◌≡◌, refl, sym, ◌∙◌}
-use Prim.Native.Nat.{◌+◌, ◌-◌, ◌*◌, ◌≤◌}
 use native.Mathlib.Omega.{arith}
-use lib.ListN.{length, drop}
+use lib.ListN.{length}
 use Rattle.image_writer.proofs.PutLaws.{entries-put, entries-put-end}
 use Rattle.image_writer.proofs.GivenLaws.{size-turn}
-use Rattle.image_form.specs.Images.{contents_bytes}
-use Rattle.image_writer.specs.Writing.{sum_of}
-use Rattle.image_writer.specs.Putting.{over, entries_given}
-use borrow.Author.Rules.{rules}
 use Rattle.image_writer.proofs.puts.put_contents.Goals as goal
 
 pub loop-i-init : goal.loop-i-init

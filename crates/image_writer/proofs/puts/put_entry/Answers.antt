@@ -1,7 +1,5 @@
-use Prim.Native.Nat.{◌-◌}
 use mathlib.Core.Path.{refl}
 use Rattle.image_writer.proofs.PutLaws.{put_three}
-use borrow.Author.Rules.{rules}
 use Rattle.image_writer.proofs.puts.put_entry.Goals as goal
 
 pub returns : goal.returns

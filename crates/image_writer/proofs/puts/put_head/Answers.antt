@@ -1,8 +1,6 @@
-use Prim.Native.Nat.{◌-◌}
 use native.Mathlib.Omega.{arith}
 use Rattle.image_writer.proofs.PutLaws.{put_four}
 use lib.ListN.{length-set}
-use borrow.Author.Rules.{rules}
 use Rattle.image_writer.proofs.puts.put_head.Goals as goal
 
 pub bounds-out-1 : goal.bounds-out-1

@@ -3,7 +3,6 @@ use Rattle.image_form.specs.Formats.{word_bytes}
 use Rattle.image_writer.proofs.PutLaws.{put_three}
 use Prim.Native.Nat.{◌+◌}
 use native.Mathlib.Omega.{arith}
-use borrow.Author.Rules.{rules}
 use Rattle.image_writer.proofs.puts.put_rule_bytes.Goals as goal
 
 pub put_word-requires : goal.put_word-requires

@@ -1,15 +1,12 @@
 use Rattle.image_form.specs.Formats.{rule_size}
 use Rattle.image_form.proofs.FormatLaws.{times-less, times-left, layout-rule}
-use mathlib.Core.Path.{◌≡◌, refl, ap, sym, ◌∙◌}
-use Prim.Native.Nat.{ℕ, ◌+◌, ◌-◌, ◌*◌, ◌≤◌}
+use mathlib.Core.Path.{refl, ap, sym, ◌∙◌}
+use Prim.Native.Nat.{ℕ, ◌-◌, ◌*◌}
 use native.Mathlib.Omega.{arith}
-use lib.ListN.{length, drop}
+use lib.ListN.{length}
 use Rattle.image_writer.proofs.PutLaws.{rules-put, rules-put-end}
 use Rattle.rules.proofs.SliceLaws.{rules-length}
 use Rattle.rules.specs.Slices.{rules_of}
-use Rattle.image_form.specs.Images.{rules_bytes}
-use Rattle.image_writer.specs.Putting.{over}
-use borrow.Author.Rules.{rules}
 use Rattle.image_writer.proofs.puts.put_rules.Goals as goal
 
 pub loop-i-init : goal.loop-i-init

@@ -1,7 +1,6 @@
 use Rattle.image_form.proofs.FormatLaws.{word_two, word-least}
 use Rattle.image_writer.proofs.PutLaws.{put-narrow, put-wide}
 use native.Mathlib.Omega.{arith}
-use borrow.Author.Rules.{rules}
 use Rattle.image_writer.proofs.puts.put_word.Goals as goal
 
 pub put64-requires : goal.put64-requires

@@ -1,10 +1,7 @@
 use mathlib.Core.Path.{◌≡◌}
 use Prim.Native.Nat.{◌+◌, ◌-◌, ◌≤◌}
-use native.Mathlib.Omega.{arith}
 use lib.ListN.{length, drop}
-use Rattle.image_writer.proofs.GivenLaws.{sum-turn, sum_over, sum-all}
 use Rattle.image_writer.specs.Writing.{sum_of}
-use borrow.Author.Rules.{rules}
 use Rattle.image_writer.proofs.writing.adds_up.Given as goal
 
 abbrev pub invariant-loop-i : goal.invariant-loop-i

@@ -1,7 +1,5 @@
 use mathlib.Core.Path.{◌∙◌}
-use Prim.Native.Nat.{◌-◌}
 use Rattle.image_writer.proofs.GivenLaws.{given-ids, given-values, given-decisions, given-fine, given-sum}
-use borrow.Author.Rules.{rules}
 use Rattle.image_writer.proofs.writing.given_verdict.Goals as goal
 
 pub returns-then-ids-counts : goal.returns-then-ids-counts

@@ -1,13 +1,9 @@
-use mathlib.Core.Path.{◌≡◌, refl, sym, ◌∙◌}
-use Prim.Native.Nat.{◌+◌, ◌-◌, ◌*◌, ◌≤◌}
-use native.Mathlib.Omega.{arith}
+use mathlib.Core.Path.{◌≡◌}
+use Prim.Native.Nat.{◌+◌, ◌-◌, ◌≤◌}
 use lib.ListN.{length, drop}
-use Rattle.image_writer.proofs.GivenLaws.{sum-turn, names-small, cut-stop, cut-pass, cut-end}
-use native.Mathlib.Nat.{add-sub_cancel_left}
 use Rattle.rules.specs.Slices.{rules_of}
 use Rattle.image_check.specs.Checks.{lists_check}
 use Rattle.image_writer.specs.Writing.{sum_of, lists_from}
-use borrow.Author.Rules.{rules}
 use Rattle.image_writer.proofs.writing.lists_verdict.Given as goal
 
 abbrev pub invariant-loop-i : goal.invariant-loop-i

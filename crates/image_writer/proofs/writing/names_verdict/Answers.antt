@@ -1,10 +1,6 @@
-use mathlib.Core.Path.{◌≡◌, refl, sym, ◌∙◌}
-use Prim.Native.Nat.{◌+◌, ◌-◌, ◌≤◌}
+use mathlib.Core.Path.{refl, sym, ◌∙◌}
 use native.Mathlib.Omega.{arith}
-use lib.ListN.{length, drop}
 use Rattle.image_writer.proofs.GivenLaws.{names-thirteen, names-twenty-four, names-three, names-pass, names-end}
-use Rattle.image_writer.specs.Writing.{names_check}
-use borrow.Author.Rules.{rules}
 use Rattle.image_writer.proofs.writing.names_verdict.Goals as goal
 
 pub loop-i-init : goal.loop-i-init

@@ -1,10 +1,7 @@
-use mathlib.Core.Path.{◌≡◌, refl, sym, ◌∙◌}
+use mathlib.Core.Path.{◌≡◌}
 use Prim.Native.Nat.{◌+◌, ◌-◌, ◌≤◌}
-use native.Mathlib.Omega.{arith}
 use lib.ListN.{length, drop}
-use Rattle.image_writer.proofs.GivenLaws.{names-thirteen, names-twenty-four, names-three, names-pass, names-end}
 use Rattle.image_writer.specs.Writing.{names_check}
-use borrow.Author.Rules.{rules}
 use Rattle.image_writer.proofs.writing.names_verdict.Given as goal
 
 abbrev pub invariant-loop-i : goal.invariant-loop-i

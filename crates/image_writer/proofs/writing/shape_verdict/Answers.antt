@@ -2,7 +2,6 @@ use Rattle.image_form.proofs.FormatLaws.{layout-known, layout-unknown, layout-pl
 use Rattle.image_writer.proofs.GivenLaws.{shape-format, shape-low, shape-high, shape-given, shape-none, shape-many, shape-fine}
 use mathlib.Core.Path.{◌∙◌}
 use native.Mathlib.Omega.{arith}
-use borrow.Author.Rules.{rules}
 use Rattle.image_writer.proofs.writing.shape_verdict.Goals as goal
 
 pub returns-then-not-layout : goal.returns-then-not-layout

@@ -1,10 +1,8 @@
 use Rattle.image_form.proofs.FormatLaws.{layout-body}
 use lib.ListN.{length}
-use Prim.Native.Nat.{◌-◌}
 use native.Mathlib.Omega.{arith}
 use Rattle.image_writer.proofs.GivenLaws.{shape-narrow}
 use Rattle.image_writer.proofs.WriteLaws.{counts-small, rules-few, wrote, written-refused, written}
-use borrow.Author.Rules.{rules}
 use Rattle.image_writer.proofs.writing.write.Goals as goal
 
 pub returns-in-Refused : goal.returns-in-Refused

@@ -1,11 +1,9 @@
 use Rattle.image_form.proofs.FormatLaws.{layout-body}
 use lib.ListN.{length}
 use mathlib.Core.Path.{ap, sym, ◌∙◌}
-use Prim.Native.Nat.{◌-◌}
 use native.Mathlib.Omega.{arith}
 use Rattle.image_writer.proofs.GivenLaws.{shape-facts, shape-narrow, names-sum, write_shape, write-names, write-lists, write-ten, write-seven, write-fine}
 use Rattle.rules.specs.Replies.{verdict_reply}
-use borrow.Author.Rules.{rules}
 use Rattle.image_writer.proofs.writing.write_verdict.Goals as goal
 
 pub returns-in_default : goal.returns-in_default

@@ -1,7 +1,6 @@
 use Rattle.rules.proofs.ReplyLaws.{fine-next, refused-stop}
 use Rattle.pairs.specs.Calls.{covers_reply, yes_or_no}
 use mathlib.Core.Path.{sym, ap, ◌∙◌}
-use borrow.Author.Rules.{rules}
 use Rattle.pairs.proofs.pairs.covers.Goals as goal
 
 pub returns-in-Refused : goal.returns-in-Refused

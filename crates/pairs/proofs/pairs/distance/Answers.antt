@@ -4,7 +4,6 @@ use Rattle.rules.specs.Replies.{Gives}
 use Rattle.rules.proofs.ReplyLaws.{fine-next, refused-stop}
 use Rattle.pairs.specs.Calls.{distance_reply}
 use mathlib.Core.Path.{sym, ap, ◌∙◌}
-use borrow.Author.Rules.{rules}
 use Rattle.pairs.proofs.pairs.distance.Goals as goal
 
 pub returns-in-Refused : goal.returns-in-Refused

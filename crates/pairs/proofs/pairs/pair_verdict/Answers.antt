@@ -5,7 +5,6 @@ use Rattle.rules.specs.Checks.{width_check}
 use Rattle.rules.specs.Calls.{check_rule}
 use Rattle.pairs.specs.Calls.{pair_check}
 use mathlib.Core.Path.{◌≡◌, sym, ap, ◌∙◌}
-use borrow.Author.Rules.{rules}
 use Rattle.pairs.proofs.pairs.pair_verdict.Goals as goal
 
 pub returns-in_default : goal.returns-in_default

@@ -2,7 +2,6 @@ use mathlib.Core.Path.{sym, ◌∙◌}
 use Rattle.words.proofs.WordLaws.{same-told}
 use Rattle.words.proofs.Tests.{and-on, and-off}
 use Rattle.rules.specs.Rules.{covers}
-use borrow.Author.Rules.{rules}
 use Rattle.pairs.proofs.patterns.rule_covers.Goals as goal
 
 pub returns-then-same : goal.returns-then-same

@@ -3,7 +3,6 @@ use Rattle.words.proofs.WordLaws.{same-told}
 use Rattle.words.proofs.Tests.{and-on, and-off}
 use mathlib.Core.Bool.{not}
 use Rattle.rules.specs.Rules.{crosses}
-use borrow.Author.Rules.{rules}
 use Rattle.pairs.proofs.patterns.rule_crosses.Goals as goal
 
 pub returns-then-not-same : goal.returns-then-not-same

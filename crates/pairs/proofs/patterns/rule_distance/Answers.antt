@@ -3,7 +3,6 @@ use lib.Bits.{bit_and}
 use Rattle.words.specs.Words.{set_bits}
 use Rattle.words.proofs.WordLaws.{holds}
 use Rattle.rules.specs.Rules.{distance}
-use borrow.Author.Rules.{rules}
 use Rattle.pairs.proofs.patterns.rule_distance.Goals as goal
 
 pub returns : goal.returns

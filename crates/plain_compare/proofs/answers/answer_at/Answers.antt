@@ -1,5 +1,4 @@
 use Rattle.plain_compare.proofs.AnswerLaws.{answer-hit, answer-miss, never-refused}
-use borrow.Author.Rules.{rules}
 use Rattle.plain_compare.proofs.answers.answer_at.Goals as goal
 
 pub returns-in-Hit : goal.returns-in-Hit

@@ -1,7 +1,5 @@
 use native.Mathlib.Omega.{arith}
-use borrow.Author.Tests.{not-true, not-false}
 use Rattle.plain_compare.proofs.ListingLaws.{told-no, ends-elsewhere, told-by-new}
-use borrow.Author.Rules.{rules}
 use Rattle.plain_compare.proofs.listing.joins.Goals as goal
 
 pub returns-then-count-eq0 : goal.returns-then-count-eq0

@@ -1,6 +1,5 @@
 use Rattle.plain_compare.proofs.ListingLaws.{lengthened, no_place, one_more}
 use native.Mathlib.Omega.{arith}
-use borrow.Author.Rules.{rules}
 use Rattle.plain_compare.proofs.listing.note.Goals as goal
 
 pub overflow_sub-count : goal.overflow_sub-count

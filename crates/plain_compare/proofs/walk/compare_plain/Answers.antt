@@ -1,6 +1,5 @@
 use Rattle.compare.proofs.DoneLaws.{stopped}
 use Rattle.plain_compare.proofs.CallLaws.{walk-ready, walk-done}
-use borrow.Author.Rules.{rules}
 use Rattle.plain_compare.proofs.walk.compare_plain.Goals as goal
 
 pub returns-in-Refused : goal.returns-in-Refused

@@ -2,7 +2,6 @@ use lib.Pow.{pow_pos}
 use Rattle.words.proofs.WordLaws.{one_shifted}
 use Rattle.plain_compare.proofs.CallLaws.{last-shifted}
 use native.Mathlib.Omega.{arith}
-use borrow.Author.Rules.{rules}
 use Rattle.plain_compare.proofs.walk.last_of.Goals as goal
 
 pub overflow_sub-result : goal.overflow_sub-result

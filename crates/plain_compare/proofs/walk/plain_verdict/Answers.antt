@@ -2,7 +2,6 @@ use native.Mathlib.Omega.{arith}
 use mathlib.Core.Path.{sym, ◌∙◌}
 use Rattle.compare_check.proofs.OrderLaws.{check-without}
 use Rattle.plain_compare.proofs.Same.{plain-check, wide-check}
-use borrow.Author.Rules.{rules}
 use Rattle.plain_compare.proofs.walk.plain_verdict.Goals as goal
 
 pub returns-then-width-gt12 : goal.returns-then-width-gt12

@@ -1,6 +1,5 @@
 use mathlib.Core.Path.{sym, ◌∙◌}
 use Rattle.plain_compare.proofs.ListingLaws.{passed_over}
-use borrow.Author.Rules.{rules}
 use Rattle.plain_compare.proofs.walk.step.Goals as goal
 
 pub returns-then-a-b : goal.returns-then-a-b

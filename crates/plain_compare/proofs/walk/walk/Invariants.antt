@@ -1,12 +1,7 @@
 use Prim.Native.Nat.{◌-◌, ◌^◌}
-use mathlib.Core.Path.{refl, ◌∙◌}
-use native.Mathlib.Omega.{arith}
-use lib.Pow.{pow_pos}
 use Rattle.rules.specs.Rules.{answer}
 use Rattle.rules.specs.Slices.{rules_of}
-use Rattle.plain_compare.proofs.WalkLaws.{Walking, walk_start, walk-room, walk-few, walk-on, walk_end, walk_more}
-use Rattle.plain_compare.proofs.CallLaws.{few-headers}
-use borrow.Author.Rules.{rules}
+use Rattle.plain_compare.proofs.WalkLaws.{Walking}
 use Rattle.plain_compare.proofs.walk.walk.Given as goal
 
 abbrev pub invariant-loop-h : goal.invariant-loop-h

@@ -1,6 +1,5 @@
 use mathlib.Core.Path.{refl, sym}
 use Rattle.pruning.proofs.AskLaws.{cut-cares, cut-values, cut-decisions, asked}
-use borrow.Author.Rules.{rules}
 use Rattle.pruning.proofs.asking.ask.Goals as goal
 
 pub slice_bounds-needed_at-end : goal.slice_bounds-needed_at-end

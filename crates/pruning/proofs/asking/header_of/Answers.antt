@@ -2,7 +2,6 @@ use mathlib.Core.Path.{◌∙◌}
 use native.Mathlib.Omega.{arith}
 use Rattle.words.proofs.WordLaws.{holds, halves-zero}
 use Rattle.pruning.proofs.AskLaws.{first-rules, shown-at, shown-nowhere, shown-past, never-refused}
-use borrow.Author.Rules.{rules}
 use Rattle.pruning.proofs.asking.header_of.Goals as goal
 
 pub returns-then-count-k : goal.returns-then-count-k

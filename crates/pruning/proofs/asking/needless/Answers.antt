@@ -1,5 +1,4 @@
 use Rattle.pruning.proofs.AskLaws.{needless-at, needless-nowhere, never-refused}
-use borrow.Author.Rules.{rules}
 use Rattle.pruning.proofs.asking.needless.Goals as goal
 
 pub returns-in-At : goal.returns-in-At

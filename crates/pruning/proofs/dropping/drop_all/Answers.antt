@@ -1,10 +1,5 @@
-use Rattle.rules.proofs.SliceLaws.{Kept}
-use Prim.Native.Nat.{◌≤◌}
 use mathlib.Core.Path.{refl}
 use native.Mathlib.Omega.{arith}
-use borrow.Author.Rules.{rules}
-use Rattle.rules.specs.Slices.{rules_of}
-use Rattle.pruning.specs.Inner.{Passing}
 use Rattle.pruning.proofs.PassLaws.{pass-start, pass-more, pass-end}
 use Rattle.pruning.proofs.dropping.drop_all.Goals as goal
 

@@ -1,5 +1,4 @@
 use Rattle.pruning.proofs.PassLaws.{kept-one, dropped-one}
-use borrow.Author.Rules.{rules}
 use Rattle.pruning.proofs.dropping.drop_one.Goals as goal
 
 pub returns-then-needless : goal.returns-then-needless

@@ -1,9 +1,4 @@
-use Prim.Native.Nat.{◌-◌, ◌≤◌}
 use native.Mathlib.Omega.{arith}
-use borrow.Author.Rules.{rules}
-use lib.ListN.{take}
-use Rattle.rules.specs.Slices.{rules_of}
-use Rattle.pruning.specs.Inner.{Shown}
 use Rattle.pruning.proofs.ShowLaws.{shown-start, shown-more, shown-end}
 use Rattle.pruning.proofs.showing.show_headers.Goals as goal
 

@@ -1,12 +1,7 @@
 use Prim.Native.Nat.{◌-◌, ◌≤◌}
-use mathlib.Core.Path.{refl, ◌∙◌}
-use native.Mathlib.Omega.{arith}
-use borrow.Author.Rules.{rules}
 use lib.ListN.{length, take}
-use Rattle.rules.specs.Slices.{rules_of, Appends, Lent}
-use Rattle.rules.proofs.SliceLaws.{told, Kept, kept-lent, rules-length, placed-rules, placed-kept}
-use Rattle.rules.proofs.PaddedLaws.{appends-none}
-use Rattle.pruning.proofs.ShowLaws.{copied_more, copied-end}
+use Rattle.rules.specs.Slices.{rules_of, Appends}
+use Rattle.rules.proofs.SliceLaws.{Kept}
 use Rattle.pruning.proofs.whole.copy_rules.Given as goal
 
 abbrev pub invariant-loop-k : goal.invariant-loop-k

@@ -1,7 +1,6 @@
 use native.Mathlib.Omega.{arith}
 use Rattle.rules.specs.Slices.{Lent}
 use Rattle.pruning.proofs.CallLaws.{prune-list, prune-results, prune-ready, prune-given}
-use borrow.Author.Rules.{rules}
 use Rattle.pruning.proofs.whole.prune.Goals as goal
 
 pub returns-in-Refused : goal.returns-in-Refused

@@ -1,6 +1,5 @@
 use mathlib.Core.Path.{refl}
 use Rattle.pruning.proofs.CallLaws.{copied-holds, left-all}
-use borrow.Author.Rules.{rules}
 use Rattle.pruning.proofs.whole.prune_into.Goals as goal
 
 pub drop_all-left-requires : goal.drop_all-left-requires

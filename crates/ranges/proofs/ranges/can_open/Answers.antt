@@ -1,7 +1,6 @@
 use Prim.Native.Nat.{◌≤◌, ◌^◌}
 use native.Mathlib.Omega.{arith}
 use lib.Pow.{pow_pos, pow_mono}
-use borrow.Author.Rules.{rules}
 use Rattle.ranges.specs.Calls.{widest_field}
 use Rattle.ranges.proofs.StepLaws.{open-ends, open-between}
 use Rattle.ranges.proofs.ranges.can_open.Goals as goal

@@ -1,13 +1,7 @@
-use mathlib.Core.Path.{◌≡◌, ap, ◌∙◌}
-use Prim.Native.Nat.{ℕ, ◌+◌, ◌-◌, ◌≤◌, ◌^◌}
-use native.Mathlib.Omega.{arith}
+use mathlib.Core.Path.{◌≡◌}
+use Prim.Native.Nat.{◌+◌, ◌-◌}
 use lib.ListN.{length}
-use lib.Pow.{pow_pos, pow_mono}
-use Rattle.ranges.specs.Calls.{widest_field}
 use Rattle.ranges.specs.Ranges.{covering}
-use Rattle.ranges.proofs.CoverLaws.{cover-none}
-use Rattle.ranges.proofs.FewLaws.{range-few}
-use Rattle.ranges.proofs.StepLaws.{widest_fits, widest-count}
 use Rattle.ranges.proofs.ranges.count_below.Given as goal
 
 abbrev pub invariant-loop-at : goal.invariant-loop-at

@@ -2,7 +2,6 @@ use mathlib.Core.Path.{◌∙◌}
 use native.Mathlib.Omega.{arith}
 use native.Mathlib.Nat.{one-mul}
 use lib.Pow.{shl_exact}
-use borrow.Author.Rules.{rules}
 use Rattle.ranges.proofs.ranges.power.Goals as goal
 
 pub returns : goal.returns

@@ -1,6 +1,5 @@
 use mathlib.Core.Path.{sym, ◌∙◌}
 use native.Mathlib.Omega.{arith}
-use borrow.Author.Rules.{rules}
 use Rattle.rules.proofs.ReplyLaws.{verdict-stop, verdict-passed}
 use Rattle.ranges.specs.Calls.{prefixes_check}
 use Rattle.ranges.proofs.CallLaws.{call-ranged, ranged-end, ranged-next, check-results, check-room, check-prefixes}

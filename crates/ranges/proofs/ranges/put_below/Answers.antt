@@ -9,7 +9,7 @@ use Rattle.ranges.specs.Prefixes.{prefix, care_word}
 use Rattle.ranges.specs.Ranges.{covering}
 use Rattle.ranges.proofs.FewLaws.{range-few}
 use Rattle.ranges.proofs.StepLaws.{widest_fits, widest-count}
-use Rattle.ranges.proofs.PutLaws.{Putting, putting-none, putting-count, putting-more, putting-done}
+use Rattle.ranges.proofs.PutLaws.{putting-none, putting-count, putting-more, putting-done}
 use Rattle.ranges.proofs.ranges.put_below.Goals as goal
 
 -- one more prefix is left to write, and they are few
@@ -76,10 +76,10 @@ loop-at-smaller c = omega (arith, some c, c.loop-at-test.true)
 
 pub loop-at-preserved : goal.loop-at-preserved
 loop-at-preserved c = let o = c.loop-at in (
-      search rules,
-      search rules,
-      putting-more _ _ _ _ _ _ _ _ _ o.invariant.2 _ _ _ c.requires.bits_le_widest_field.1 c.stars_at.ensures c.power-size.ensures (words c) (omega (arith, left c, c.requires.end_in_bounds.0)) (omega (arith, left c, c.requires.end_in_bounds.1)),
-    )
+  search rules,
+  search rules,
+  putting-more _ _ _ _ _ _ _ _ _ o.invariant.2 _ _ _ c.requires.bits_le_widest_field.1 c.stars_at.ensures c.power-size.ensures (words c) (omega (arith, left c, c.requires.end_in_bounds.0)) (omega (arith, left c, c.requires.end_in_bounds.1)),
+)
 
 pub returns : goal.returns
 returns c = putting-done _ _ _ _ _ _ _ _ _ c.loop-at.invariant.2 c.loop-at-test.false

@@ -1,15 +1,7 @@
-use mathlib.Core.Path.{◌≡◌, refl, ap₂}
-use Prim.Native.Nat.{ℕ, ◌+◌, ◌-◌, ◌*◌, ◌≤◌, ◌<◌, ◌^◌}
-use native.Mathlib.Omega.{arith}
+use mathlib.Core.Path.{◌≡◌}
+use Prim.Native.Nat.{◌-◌}
 use lib.ListN.{length}
-use lib.Pow.{pow_pos, pow_mono}
-use borrow.Author.Rules.{rules}
-use Rattle.ranges.specs.Calls.{widest_field}
-use Rattle.ranges.specs.Prefixes.{prefix, care_word}
-use Rattle.ranges.specs.Ranges.{covering}
-use Rattle.ranges.proofs.FewLaws.{range-few}
-use Rattle.ranges.proofs.StepLaws.{widest_fits, widest-count}
-use Rattle.ranges.proofs.PutLaws.{Putting, putting-none, putting-count, putting-more, putting-done}
+use Rattle.ranges.proofs.PutLaws.{Putting}
 use Rattle.ranges.proofs.ranges.put_below.Given as goal
 
 abbrev pub invariant-loop-at : goal.invariant-loop-at

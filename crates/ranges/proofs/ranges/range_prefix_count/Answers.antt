@@ -1,5 +1,4 @@
 use native.Mathlib.Omega.{arith}
-use borrow.Author.Rules.{rules}
 use Rattle.ranges.proofs.CallLaws.{call-ranged, ranged-end, ranged-next, count-refused, count-given}
 use Rattle.ranges.proofs.ranges.range_prefix_count.Goals as goal
 

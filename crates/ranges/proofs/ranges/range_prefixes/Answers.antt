@@ -1,5 +1,4 @@
 use native.Mathlib.Omega.{arith}
-use borrow.Author.Rules.{rules}
 use Rattle.rules.proofs.ReplyLaws.{verdict-passed}
 use Rattle.ranges.proofs.CallLaws.{ranged-end, ranged-next, prefixes-facts, prefixes-refused, prefixes-given}
 use Rattle.ranges.proofs.ranges.range_prefixes.Goals as goal

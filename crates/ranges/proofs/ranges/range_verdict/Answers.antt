@@ -1,7 +1,6 @@
 use mathlib.Core.Path.{sym, ◌∙◌}
 use Prim.Native.Nat.{◌≤◌, ◌<◌, ◌^◌}
 use native.Mathlib.Omega.{arith}
-use borrow.Author.Rules.{rules}
 use Rattle.ranges.proofs.CallLaws.{check-field, check-range, field-small, field-large, field-yes, range-crossed, range-outside, range-yes}
 use Rattle.ranges.proofs.ranges.range_verdict.Goals as goal
 

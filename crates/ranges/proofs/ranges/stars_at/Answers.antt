@@ -1,12 +1,9 @@
-use mathlib.Core.Path.{◌≡◌, sym, ◌∙◌}
-use mathlib.Core.Bool.{true}
-use Prim.Native.Nat.{◌-◌, ◌≤◌, ◌^◌}
+use mathlib.Core.Path.{sym, ◌∙◌}
+use Prim.Native.Nat.{◌≤◌, ◌^◌}
 use native.Mathlib.Omega.{arith}
 use lib.Pow.{pow_mono}
 use borrow.Author.Rules.{rules}
-use borrow.Author.Tests.{not-true, not-false}
 use Rattle.ranges.specs.Calls.{widest_field}
-use Rattle.ranges.specs.Inner.{opens}
 use Rattle.ranges.proofs.StepLaws.{open_none, widest-here, widest-last}
 use Rattle.ranges.proofs.ranges.stars_at.Goals as goal
 

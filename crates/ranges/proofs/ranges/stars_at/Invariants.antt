@@ -1,13 +1,7 @@
-use mathlib.Core.Path.{◌≡◌, sym, ◌∙◌}
+use mathlib.Core.Path.{◌≡◌}
 use mathlib.Core.Bool.{true}
-use Prim.Native.Nat.{◌-◌, ◌≤◌, ◌^◌}
-use native.Mathlib.Omega.{arith}
-use lib.Pow.{pow_mono}
-use borrow.Author.Rules.{rules}
-use borrow.Author.Tests.{not-true, not-false}
-use Rattle.ranges.specs.Calls.{widest_field}
+use Prim.Native.Nat.{◌-◌, ◌≤◌}
 use Rattle.ranges.specs.Inner.{opens}
-use Rattle.ranges.proofs.StepLaws.{open_none, widest-here, widest-last}
 use Rattle.ranges.proofs.ranges.stars_at.Given as goal
 
 abbrev pub invariant-loop-stars : goal.invariant-loop-stars

@@ -1,10 +1,8 @@
 use mathlib.Core.Path.{refl}
-use Prim.Native.Nat.{◌-◌, ◌≤◌}
 use native.Mathlib.Omega.{arith}
 use borrow.Author.Rules.{rules}
-use Rattle.rules.specs.Slices.{rules_of, Lent}
-use Rattle.removal.specs.Removal.{Shifted}
-use Rattle.rules.proofs.SliceLaws.{told, Kept, kept-lent, rules-length, placed-rules, placed-kept}
+use Rattle.rules.specs.Slices.{Lent}
+use Rattle.rules.proofs.SliceLaws.{told, kept-lent, rules-length, placed-rules, placed-kept}
 use Rattle.removal.proofs.RemoveLaws.{shifted_none, shifted-put, shifted_end}
 use Rattle.removal.proofs.removing.move_down.Goals as goal
 

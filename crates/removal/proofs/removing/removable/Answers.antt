@@ -1,4 +1,3 @@
-use borrow.Author.Rules.{rules}
 use Rattle.removal.proofs.RemoveLaws.{removable-values, removable-decisions, removable-past, removable-count}
 use Rattle.removal.proofs.removing.removable.Goals as goal
 

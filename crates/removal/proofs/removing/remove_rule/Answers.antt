@@ -1,6 +1,5 @@
 use mathlib.Core.Path.{sym, ◌∙◌}
 use native.Mathlib.Omega.{arith}
-use borrow.Author.Rules.{rules}
 use Rattle.rules.proofs.SliceLaws.{told-blank}
 use Rattle.removal.proofs.RemoveLaws.{removable-exactly, removed-yes, removed-no}
 use Rattle.removal.proofs.removing.remove_rule.Goals as goal

@@ -2,7 +2,6 @@ use Rattle.rules.specs.Calls.{check_list}
 use Rattle.rules.proofs.ReplyLaws.{verdict-stop, verdict-passed}
 use Rattle.rules.proofs.CheckLaws.{list-two-values, list-two-decisions, list-three, list-rules}
 use mathlib.Core.Path.{sym, ◌∙◌}
-use borrow.Author.Rules.{rules}
 use Rattle.rules.proofs.checks.check_list_as.Goals as goal
 
 pub returns-in_default : goal.returns-in_default

@@ -1,7 +1,6 @@
 use Rattle.rules.specs.Calls.{check_rule}
 use Rattle.rules.proofs.ReplyLaws.{fine-next, verdict-stop}
 use mathlib.Core.Path.{sym, ◌∙◌}
-use borrow.Author.Rules.{rules}
 use Rattle.rules.proofs.checks.check_rule.Goals as goal
 
 pub returns-in_default : goal.returns-in_default

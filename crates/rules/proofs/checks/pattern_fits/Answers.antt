@@ -2,7 +2,6 @@ use mathlib.Core.Path.{sym, ◌∙◌}
 use Rattle.words.proofs.WordLaws.{same-told}
 use Rattle.words.proofs.Tests.{and-on, and-off}
 use Rattle.rules.specs.Checks.{pattern_fits}
-use borrow.Author.Rules.{rules}
 use Rattle.rules.proofs.checks.pattern_fits.Goals as goal
 
 pub returns-then-below-2 : goal.returns-then-below-2

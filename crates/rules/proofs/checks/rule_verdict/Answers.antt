@@ -1,7 +1,6 @@
 use Rattle.rules.proofs.CheckLaws.{rule-four, rule-five, rule-fine}
 use borrow.Author.Tests.{lt-ltb, le-ltb}
 use mathlib.Core.Path.{sym, ◌∙◌}
-use borrow.Author.Rules.{rules}
 use Rattle.rules.proofs.checks.rule_verdict.Goals as goal
 
 pub returns-then-rule-lt65535 : goal.returns-then-rule-lt65535

@@ -1,12 +1,9 @@
 use Rattle.rules.proofs.SliceLaws.{told, below-rules, few-decisions}
 use Rattle.rules.proofs.CheckLaws.{rules-pass, rules-stop, rules-end}
-use Rattle.rules.specs.Slices.{rules_of}
-use Rattle.rules.specs.Checks.{rule_check, rules_check}
-use lib.ListN.{length, drop}
-use Prim.Native.Nat.{◌+◌, ◌-◌, ◌≤◌}
+use Rattle.rules.specs.Checks.{rule_check}
 use borrow.Author.Rules.{rules}
 use native.Mathlib.Omega.{arith}
-use mathlib.Core.Path.{◌≡◌, refl, sym, ap, ◌∙◌}
+use mathlib.Core.Path.{refl, sym, ap, ◌∙◌}
 use Rattle.rules.proofs.checks.rules_verdict.Goals as goal
 
 pub loop-i-init : goal.loop-i-init
@@ -19,10 +16,10 @@ returns-in_default c = let o = c.loop-i in
 
 pub loop-i-preserved : goal.loop-i-preserved
 loop-i-preserved c = let o = c.loop-i in (
-      omega arith,
-      o.invariant.1 ∙ rules-pass _ _ o.i _ c.rule_verdict-v.result (below-rules _ _ _ _ (search rules) c.loop-i-test.true)
-          (c.rule_verdict-v.ensures ∙ ap (rule_check _ _ _) (told c.rule_at-rule.ensures)) c.in-Fine.is,
-    )
+  omega arith,
+  o.invariant.1 ∙ rules-pass _ _ o.i _ c.rule_verdict-v.result (below-rules _ _ _ _ (search rules) c.loop-i-test.true)
+      (c.rule_verdict-v.ensures ∙ ap (rule_check _ _ _) (told c.rule_at-rule.ensures)) c.in-Fine.is,
+)
 
 pub returns : goal.returns
 returns c = let o = c.loop-i in

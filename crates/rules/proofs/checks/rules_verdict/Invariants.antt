@@ -1,12 +1,8 @@
-use Rattle.rules.proofs.SliceLaws.{told, below-rules, few-decisions}
-use Rattle.rules.proofs.CheckLaws.{rules-pass, rules-stop, rules-end}
 use Rattle.rules.specs.Slices.{rules_of}
-use Rattle.rules.specs.Checks.{rule_check, rules_check}
+use Rattle.rules.specs.Checks.{rules_check}
 use lib.ListN.{length, drop}
 use Prim.Native.Nat.{◌+◌, ◌-◌, ◌≤◌}
-use borrow.Author.Rules.{rules}
-use native.Mathlib.Omega.{arith}
-use mathlib.Core.Path.{◌≡◌, refl, sym, ap, ◌∙◌}
+use mathlib.Core.Path.{◌≡◌}
 use Rattle.rules.proofs.checks.rules_verdict.Given as goal
 
 abbrev pub invariant-loop-i : goal.invariant-loop-i

@@ -1,10 +1,5 @@
 use Rattle.rules.proofs.FoundLaws.{found_here, none_here, none_at_all}
-use Rattle.rules.specs.Found.{NoneBefore}
-use Rattle.words.specs.Halves.{num}
 use Rattle.rules.proofs.SliceLaws.{told}
-use Rattle.rules.specs.Slices.{rules_of}
-use lib.ListN.{length}
-use Prim.Native.Nat.{◌-◌}
 use borrow.Author.Rules.{rules}
 use native.Mathlib.Omega.{arith}
 use Rattle.rules.proofs.lookups.first_match.Goals as goal

@@ -4,7 +4,6 @@ use Rattle.rules.proofs.SliceLaws.{told}
 use Rattle.rules.proofs.ReplyLaws.{refused-stop}
 use Rattle.rules.specs.Calls.{looked_up}
 use mathlib.Core.Path.{sym}
-use borrow.Author.Rules.{rules}
 use native.Mathlib.Omega.{arith}
 use Rattle.rules.proofs.lookups.lookup_number.Goals as goal
 

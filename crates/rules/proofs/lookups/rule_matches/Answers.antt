@@ -1,6 +1,5 @@
 use Rattle.words.proofs.WordLaws.{same-told}
 use Rattle.rules.specs.Rules.{matches}
-use borrow.Author.Rules.{rules}
 use Rattle.rules.proofs.lookups.rule_matches.Goals as goal
 
 pub returns : goal.returns

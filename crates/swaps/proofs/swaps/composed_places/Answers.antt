@@ -1,11 +1,9 @@
-use mathlib.Core.Path.{◌≡◌, sym, ap, ◌∙◌}
-use Prim.Native.Nat.{ℕ, ◌≤◌, ◌-◌}
+use mathlib.Core.Path.{sym, ap, ◌∙◌}
+use Prim.Native.Nat.{ℕ}
 use lib.ListN.{set}
 use mathlib.Core.List.{List}
 use native.Mathlib.Omega.{arith}
-use borrow.Author.Rules.{rules}
 use Rattle.rules.specs.Checks.{widest}
-use Rattle.swaps.specs.Swaps.{array_of}
 use Rattle.swaps.proofs.SwapLaws.{good-perm}
 use Rattle.swaps.proofs.SwapSteps.{filled_none, filled_more, through, composed-is}
 use Rattle.swaps.proofs.swaps.composed_places.Goals as goal

@@ -1,11 +1,5 @@
-use mathlib.Core.Path.{◌≡◌, sym, ◌∙◌}
-use mathlib.Core.Bool.{true}
-use Prim.Native.Nat.{◌≤◌, ◌-◌}
+use mathlib.Core.Path.{sym, ◌∙◌}
 use native.Mathlib.Omega.{arith}
-use borrow.Author.Tests.{not-true, not-false}
-use borrow.Author.Rules.{rules}
-use Rattle.rules.specs.Checks.{widest}
-use Rattle.swaps.specs.Swaps.{all_below, entry_good}
 use Rattle.swaps.proofs.SwapSteps.{all_none, all_more, good-no, good-yes}
 use Rattle.swaps.proofs.swaps.good_places.Goals as goal
 

@@ -1,13 +1,8 @@
-use mathlib.Core.Path.{◌≡◌, sym, ap, ap₂, ◌∙◌}
-use Prim.Native.Nat.{ℕ, ◌≤◌, ◌-◌, ◌+◌}
-use native.Mathlib.Numerals.{add-one}
-use lib.ListN.{set}
-use mathlib.Core.List.{List}
-use native.Mathlib.Omega.{arith}
-use borrow.Author.Rules.{rules}
+use mathlib.Core.Path.{◌≡◌}
+use Prim.Native.Nat.{◌≤◌, ◌-◌}
 use Rattle.rules.specs.Checks.{widest}
-use Rattle.swaps.specs.Swaps.{seat, array_of}
-use Rattle.swaps.proofs.SwapSteps.{seat-le, filled_none, filled_more, seats, inverse-is}
+use Rattle.swaps.specs.Swaps.{array_of}
+use Rattle.swaps.proofs.SwapSteps.{seats}
 use Rattle.swaps.proofs.swaps.inverse_places.Given as goal
 
 abbrev pub invariant-loop-i : goal.invariant-loop-i

@@ -1,4 +1,3 @@
-use borrow.Author.Rules.{rules}
 use Rattle.swaps.proofs.swaps.lookup_swapped.Goals as goal
 
 pub returns : goal.returns

@@ -1,14 +1,11 @@
-use mathlib.Core.Path.{◌≡◌, sym, ap, ◌∙◌}
-use Prim.Native.Nat.{◌≤◌, ◌-◌}
+use mathlib.Core.Path.{sym, ap, ◌∙◌}
 use native.Mathlib.Omega.{arith}
-use borrow.Author.Rules.{rules}
 use Rattle.words.specs.Halves.{num, halves}
 use Rattle.words.proofs.WordLaws.{halves-zero}
 use Rattle.rules.specs.Checks.{widest}
-use Rattle.swaps.specs.Swaps.{word_from}
 use Rattle.swaps.proofs.WordLaws.{word-zero}
 use Rattle.swaps.proofs.SwapLaws.{good-perm}
-use Rattle.swaps.proofs.SwapSteps.{bits_of, pushed-on, moved-is}
+use Rattle.swaps.proofs.SwapSteps.{pushed-on, moved-is}
 use Rattle.swaps.proofs.swaps.moved_word.Goals as goal
 
 pub loop-i-init : goal.loop-i-init

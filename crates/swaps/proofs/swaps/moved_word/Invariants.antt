@@ -1,14 +1,8 @@
-use mathlib.Core.Path.{◌≡◌, sym, ap, ◌∙◌}
+use mathlib.Core.Path.{◌≡◌}
 use Prim.Native.Nat.{◌≤◌, ◌-◌}
-use native.Mathlib.Omega.{arith}
-use borrow.Author.Rules.{rules}
 use Rattle.words.specs.Halves.{num, halves}
-use Rattle.words.proofs.WordLaws.{halves-zero}
-use Rattle.rules.specs.Checks.{widest}
 use Rattle.swaps.specs.Swaps.{word_from}
-use Rattle.swaps.proofs.WordLaws.{word-zero}
-use Rattle.swaps.proofs.SwapLaws.{good-perm}
-use Rattle.swaps.proofs.SwapSteps.{bits_of, pushed-on, moved-is}
+use Rattle.swaps.proofs.SwapSteps.{bits_of}
 use Rattle.swaps.proofs.swaps.moved_word.Given as goal
 
 abbrev pub invariant-loop-i : goal.invariant-loop-i

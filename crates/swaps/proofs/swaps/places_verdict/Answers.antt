@@ -1,7 +1,6 @@
 use Rattle.rules.specs.Checks.{widest}
 use Rattle.swaps.proofs.SwapCallLaws.{places-yes, places-no}
 use mathlib.Core.Path.{sym, ◌∙◌}
-use borrow.Author.Rules.{rules}
 use Rattle.swaps.proofs.swaps.places_verdict.Goals as goal
 
 pub returns-then-good_places : goal.returns-then-good_places

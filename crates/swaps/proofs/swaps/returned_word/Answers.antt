@@ -1,13 +1,12 @@
-use mathlib.Core.Path.{◌≡◌, sym, ap, ◌∙◌}
+use mathlib.Core.Path.{sym, ap, ◌∙◌}
 use native.Mathlib.Omega.{arith}
 use lib.Bits.{bit_or}
-use borrow.Author.Rules.{rules}
 use mathlib.Core.Bool.{not}
 use Rattle.words.specs.Words.{without}
 use Rattle.words.specs.Halves.{num, halves}
 use Rattle.words.proofs.Tests.{eqb_yes}
 use Rattle.words.proofs.WordLaws.{holds}
-use Rattle.swaps.proofs.ReturnLaws.{Top, top, of_one, word_held, without-less, Returning, return-none, place_in, return-more, return-all}
+use Rattle.swaps.proofs.ReturnLaws.{Top, top, of_one, word_held, without-less, return-none, place_in, return-more, return-all}
 use Rattle.swaps.proofs.swaps.returned_word.Goals as goal
 
 pub loop-left-init : goal.loop-left-init

@@ -1,13 +1,6 @@
-use mathlib.Core.Path.{◌≡◌, sym, ap, ◌∙◌}
-use native.Mathlib.Omega.{arith}
-use lib.Bits.{bit_or}
-use borrow.Author.Rules.{rules}
-use borrow.Author.Tests.{not-false}
-use Rattle.words.specs.Words.{without}
+use mathlib.Core.Path.{◌≡◌}
 use Rattle.words.specs.Halves.{num, halves}
-use Rattle.words.proofs.Tests.{eqb_yes}
-use Rattle.words.proofs.WordLaws.{holds}
-use Rattle.swaps.proofs.ReturnLaws.{Top, top, of_one, word_held, without-less, Returning, return-none, place_in, return-more, return-all}
+use Rattle.swaps.proofs.ReturnLaws.{Returning}
 use Rattle.swaps.proofs.swaps.returned_word.Given as goal
 
 abbrev pub invariant-loop-left : goal.invariant-loop-left

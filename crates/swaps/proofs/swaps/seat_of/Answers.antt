@@ -1,8 +1,6 @@
 use mathlib.Core.Path.{◌≡◌, sym, ap, ◌∙◌}
-use mathlib.Core.Logic.{⊎_elim}
-use Prim.Native.Nat.{ℕ, ◌≤◌, ◌-◌}
+use Prim.Native.Nat.{ℕ}
 use native.Mathlib.Omega.{arith}
-use borrow.Author.Rules.{rules}
 use Rattle.swaps.specs.Swaps.{seat}
 use Rattle.swaps.proofs.SwapLaws.{seat-zero}
 use Rattle.swaps.proofs.SwapSteps.{seat-yes, seat-no}

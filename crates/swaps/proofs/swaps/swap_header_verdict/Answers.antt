@@ -4,7 +4,6 @@ use Rattle.rules.specs.Checks.{widest}
 use Rattle.swaps.specs.SwapCalls.{swap_of, check_swap_header}
 use Rattle.swaps.proofs.SwapCallLaws.{header-six, header-nine}
 use mathlib.Core.Path.{sym, ◌∙◌}
-use borrow.Author.Rules.{rules}
 use Rattle.swaps.proofs.swaps.swap_header_verdict.Goals as goal
 
 pub returns-in_default : goal.returns-in_default

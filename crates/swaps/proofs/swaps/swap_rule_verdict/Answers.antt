@@ -2,7 +2,6 @@ use Rattle.swaps.proofs.SwapCallLaws.{rule-most}
 use Rattle.rules.proofs.ReplyLaws.{fine-next, verdict-stop}
 use Rattle.swaps.specs.SwapCalls.{check_swap_rule}
 use mathlib.Core.Path.{sym, ◌∙◌}
-use borrow.Author.Rules.{rules}
 use Rattle.swaps.proofs.swaps.swap_rule_verdict.Goals as goal
 
 pub returns-in_default : goal.returns-in_default

@@ -2,7 +2,6 @@ use Rattle.rules.proofs.ReplyLaws.{fine-next, verdict-stop, verdict-passed}
 use Rattle.rules.proofs.CheckLaws.{width-passed}
 use Rattle.swaps.specs.SwapCalls.{check_swap}
 use mathlib.Core.Path.{sym, ◌∙◌}
-use borrow.Author.Rules.{rules}
 use Rattle.swaps.proofs.swaps.swap_verdict.Goals as goal
 
 pub returns-in_default : goal.returns-in_default

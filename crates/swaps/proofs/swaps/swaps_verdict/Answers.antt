@@ -1,7 +1,6 @@
 use Rattle.rules.specs.Checks.{widest}
 use Rattle.swaps.proofs.SwapCallLaws.{swaps-first, swaps-second, swaps-same, swaps-unlike}
 use mathlib.Core.Path.{◌∙◌}
-use borrow.Author.Rules.{rules}
 use Rattle.swaps.proofs.swaps.swaps_verdict.Goals as goal
 
 pub returns-in_default : goal.returns-in_default

@@ -1,11 +1,6 @@
-use mathlib.Core.Path.{◌≡◌, sym, ap, ◌∙◌}
-use mathlib.Core.Logic.{⊎_elim}
-use Prim.Native.Nat.{ℕ, ◌≤◌, ◌-◌}
-use native.Mathlib.Omega.{arith}
-use borrow.Author.Rules.{rules}
+use mathlib.Core.Path.{◌≡◌}
+use Prim.Native.Nat.{◌≤◌, ◌-◌}
 use Rattle.swaps.specs.Swaps.{times}
-use Rattle.swaps.proofs.SwapLaws.{times_zero}
-use Rattle.swaps.proofs.SwapSteps.{times-yes, times-no}
 use Rattle.swaps.proofs.swaps.times_of.Given as goal
 
 abbrev pub invariant-loop-i : goal.invariant-loop-i

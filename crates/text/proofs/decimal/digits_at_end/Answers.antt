@@ -1,14 +1,11 @@
 use Rattle.text.proofs.DecimalLaws.{none-put, word-digits, tenth-digits, some-digit, first-put, next-put}
-use Rattle.text.specs.Decimal.{decimal}
 use Rattle.words.specs.Halves.{num}
 use Rattle.words.proofs.WordLaws.{holds}
 use Rattle.words.proofs.Tests.{eqb_yes, no_eqb}
-use lib.ListN.{length, drop, length-set}
-use Prim.Native.Nat.{ℕ, ◌-◌, ◌≤◌, ◌<◌, ◌^◌}
-use mathlib.Core.List.{◌++◌}
-use borrow.Author.Rules.{rules}
+use lib.ListN.{length-set}
+use Prim.Native.Nat.{ℕ, ◌-◌, ◌<◌, ◌^◌}
 use native.Mathlib.Omega.{arith}
-use mathlib.Core.Path.{◌≡◌, sym, subst, ◌∙◌}
+use mathlib.Core.Path.{sym, subst, ◌∙◌}
 use Rattle.text.proofs.decimal.digits_at_end.Goals as goal
 
 pub loop-more-init : goal.loop-more-init

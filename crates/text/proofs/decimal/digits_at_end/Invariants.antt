@@ -1,14 +1,9 @@
-use Rattle.text.proofs.DecimalLaws.{none-put, word-digits, tenth-digits, some-digit, first-put, next-put}
 use Rattle.text.specs.Decimal.{decimal}
 use Rattle.words.specs.Halves.{num}
-use Rattle.words.proofs.WordLaws.{holds}
-use Rattle.words.proofs.Tests.{eqb_yes, no_eqb}
-use lib.ListN.{length, drop, length-set}
-use Prim.Native.Nat.{ℕ, ◌-◌, ◌≤◌, ◌<◌, ◌^◌}
+use lib.ListN.{length, drop}
+use Prim.Native.Nat.{◌≤◌, ◌<◌, ◌^◌}
 use mathlib.Core.List.{◌++◌}
-use borrow.Author.Rules.{rules}
-use native.Mathlib.Omega.{arith}
-use mathlib.Core.Path.{◌≡◌, sym, subst, ◌∙◌}
+use mathlib.Core.Path.{◌≡◌}
 use Rattle.text.proofs.decimal.digits_at_end.Given as goal
 
 abbrev pub invariant-loop-more : goal.invariant-loop-more

@@ -1,11 +1,8 @@
 use Rattle.text.proofs.PutLaws.{copy-none, copy-next}
 use Rattle.text.proofs.DecimalLaws.{no_room, all-copied}
-use lib.ListN.{length, take, drop, length-set}
-use mathlib.Core.List.{◌++◌}
-use Prim.Native.Nat.{◌-◌, ◌≤◌}
-use borrow.Author.Rules.{rules}
+use lib.ListN.{length-set}
 use native.Mathlib.Omega.{arith}
-use mathlib.Core.Path.{◌≡◌, refl, ◌∙◌}
+use mathlib.Core.Path.{refl, ◌∙◌}
 use Rattle.text.proofs.decimal.write_number.Goals as goal
 
 pub returns-then-out-from : goal.returns-then-out-from

@@ -1,11 +1,7 @@
-use Rattle.text.proofs.PutLaws.{copy-none, copy-next}
-use Rattle.text.proofs.DecimalLaws.{no_room, all-copied}
-use lib.ListN.{length, take, drop, length-set}
+use lib.ListN.{length, take, drop}
 use mathlib.Core.List.{◌++◌}
 use Prim.Native.Nat.{◌-◌, ◌≤◌}
-use borrow.Author.Rules.{rules}
-use native.Mathlib.Omega.{arith}
-use mathlib.Core.Path.{◌≡◌, refl, ◌∙◌}
+use mathlib.Core.Path.{◌≡◌}
 use Rattle.text.proofs.decimal.write_number.Given as goal
 
 abbrev pub invariant-loop-i : goal.invariant-loop-i

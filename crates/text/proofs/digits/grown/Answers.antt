@@ -1,6 +1,5 @@
 use native.Mathlib.Omega.{arith}
 use Rattle.text.proofs.DigitLaws.{carry-small, grown-fits, grown-over}
-use borrow.Author.Rules.{rules}
 use Rattle.text.proofs.digits.grown.Goals as goal
 
 pub overflow_cast-low : goal.overflow_cast-low

@@ -1,5 +1,4 @@
 use Rattle.text.proofs.DigitLaws.{digit-made}
-use borrow.Author.Rules.{rules}
 use Rattle.text.proofs.digits.last_digit.Goals as goal
 
 pub returns : goal.returns

@@ -1,7 +1,6 @@
 use native.Mathlib.Omega.{arith}
 use Rattle.text.proofs.DigitLaws.{tenth-fits, tenth-made}
 use mathlib.Core.Path.{refl}
-use borrow.Author.Rules.{rules}
 use Rattle.text.proofs.digits.tenth.Goals as goal
 
 pub overflow_add-result : goal.overflow_add-result

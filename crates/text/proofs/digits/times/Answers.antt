@@ -1,7 +1,6 @@
 use native.Mathlib.Omega.{arith}
-use Prim.Native.Nat.{◌+◌, ◌*◌, ◌/◌, ◌%◌}
+use Prim.Native.Nat.{◌/◌, ◌%◌}
 use Rattle.text.proofs.DigitLaws.{small, times-made}
-use borrow.Author.Rules.{rules}
 use Rattle.text.proofs.digits.times.Goals as goal
 
 pub overflow_mul-low : goal.overflow_mul-low

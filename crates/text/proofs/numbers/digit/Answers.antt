@@ -1,6 +1,5 @@
 use Rattle.text.specs.Numbers.{digit_of}
 use borrow.Author.Tests.{lt-ltb, le-ltb}
-use borrow.Author.Rules.{rules}
 use Rattle.text.proofs.numbers.digit.Goals as goal
 
 pub returns-then-x-lt48 : goal.returns-then-x-lt48

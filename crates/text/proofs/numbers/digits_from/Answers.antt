@@ -1,14 +1,10 @@
 use Rattle.text.proofs.NumberLaws.{no_digit, past-limit, one_more, no_more}
 use Rattle.text.specs.declared.Number.{Number}
-use Rattle.text.specs.Numbers.{goes_on}
-use Rattle.words.specs.Halves.{num, limit}
+use Rattle.words.specs.Halves.{num}
 use Rattle.words.proofs.WordLaws.{halves-num}
 use Rattle.text.proofs.DigitLaws.{grown-value, grown-big}
-use lib.ListN.{length, drop}
-use Prim.Native.Nat.{◌-◌, ◌^◌, ◌<◌}
-use borrow.Author.Rules.{rules}
 use native.Mathlib.Omega.{arith}
-use mathlib.Core.Path.{◌≡◌, refl, sym, ap, ◌∙◌}
+use mathlib.Core.Path.{refl, sym, ap, ◌∙◌}
 use Rattle.text.proofs.numbers.digits_from.Goals as goal
 
 pub loop-i-init : goal.loop-i-init

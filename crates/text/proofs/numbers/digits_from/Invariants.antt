@@ -1,14 +1,8 @@
-use Rattle.text.proofs.NumberLaws.{no_digit, past-limit, one_more, no_more}
-use Rattle.text.specs.declared.Number.{Number}
 use Rattle.text.specs.Numbers.{goes_on}
 use Rattle.words.specs.Halves.{num, limit}
-use Rattle.words.proofs.WordLaws.{halves-num}
-use Rattle.text.proofs.DigitLaws.{grown-value, grown-big}
 use lib.ListN.{length, drop}
 use Prim.Native.Nat.{◌-◌, ◌^◌, ◌<◌}
-use borrow.Author.Rules.{rules}
-use native.Mathlib.Omega.{arith}
-use mathlib.Core.Path.{◌≡◌, refl, sym, ap, ◌∙◌}
+use mathlib.Core.Path.{◌≡◌}
 use Rattle.text.proofs.numbers.digits_from.Given as goal
 
 abbrev pub invariant-loop-i : goal.invariant-loop-i

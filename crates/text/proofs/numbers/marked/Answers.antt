@@ -2,7 +2,6 @@ use Rattle.words.proofs.Tests.{and-on, and-off}
 use Rattle.text.specs.Numbers.{marked}
 use borrow.Author.Tests.{eq-eqb, ne_eqb, lt-ltb, le-ltb}
 use mathlib.Core.Path.{◌∙◌}
-use borrow.Author.Rules.{rules}
 use Rattle.text.proofs.numbers.marked.Goals as goal
 
 pub returns-then-word-eq48 : goal.returns-then-word-eq48

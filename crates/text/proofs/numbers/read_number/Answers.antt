@@ -1,7 +1,6 @@
 use Rattle.text.proofs.NumberLaws.{number-hex, number-empty, number-decimal}
 use borrow.Author.Tests.{eq-eqb, ne_eqb}
 use mathlib.Core.Path.{sym, ◌∙◌}
-use borrow.Author.Rules.{rules}
 use Rattle.text.proofs.numbers.read_number.Goals as goal
 
 pub returns-then-marked : goal.returns-then-marked

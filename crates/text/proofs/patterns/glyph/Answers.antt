@@ -1,7 +1,6 @@
 use Rattle.text.proofs.PatternLaws.{glyph-star, glyph-value}
 use Prim.Native.Nat.{ℕ, ◌+◌}
 use mathlib.Core.Path.{sym, ap, ◌∙◌}
-use borrow.Author.Rules.{rules}
 use Rattle.text.proofs.patterns.glyph.Goals as goal
 
 pub returns-then-bit_at-eq0 : goal.returns-then-bit_at-eq0

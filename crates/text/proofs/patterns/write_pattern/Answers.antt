@@ -1,12 +1,7 @@
 use Rattle.text.proofs.PatternLaws.{text-none, text-more, over-wide, too_short, all-places}
-use Rattle.text.specs.Patterns.{places_text}
-use Rattle.rules.specs.Rule.{rule_of}
-use lib.ListN.{length, drop, length-set}
-use mathlib.Core.List.{◌++◌}
-use Prim.Native.Nat.{◌-◌, ◌≤◌}
-use borrow.Author.Rules.{rules}
+use lib.ListN.{length-set}
 use native.Mathlib.Omega.{arith}
-use mathlib.Core.Path.{◌≡◌, refl, ◌∙◌}
+use mathlib.Core.Path.{refl, ◌∙◌}
 use Rattle.text.proofs.patterns.write_pattern.Goals as goal
 
 pub returns-then-width-gt128 : goal.returns-then-width-gt128
@@ -20,10 +15,10 @@ loop-k-init c = (omega arith, refl, text-none _ _ _)
 
 pub loop-k-preserved : goal.loop-k-preserved
 loop-k-preserved c = let o = c.loop-k in (
-      omega arith,
-      length-set o.out o.k c.glyph.result ∙ o.invariant.1,
-      text-more _ _ o.k _ _ _ (omega arith) c.glyph.ensures o.invariant.2,
-    )
+  omega arith,
+  length-set o.out o.k c.glyph.result ∙ o.invariant.1,
+  text-more _ _ o.k _ _ _ (omega arith) c.glyph.ensures o.invariant.2,
+)
 
 pub shape_of-out : goal.shape_of-out
 shape_of-out c = c.loop-k.invariant.1

@@ -1,12 +1,9 @@
-use Rattle.text.proofs.PatternLaws.{text-none, text-more, over-wide, too_short, all-places}
 use Rattle.text.specs.Patterns.{places_text}
 use Rattle.rules.specs.Rule.{rule_of}
-use lib.ListN.{length, drop, length-set}
+use lib.ListN.{length, drop}
 use mathlib.Core.List.{◌++◌}
 use Prim.Native.Nat.{◌-◌, ◌≤◌}
-use borrow.Author.Rules.{rules}
-use native.Mathlib.Omega.{arith}
-use mathlib.Core.Path.{◌≡◌, refl, ◌∙◌}
+use mathlib.Core.Path.{◌≡◌}
 use Rattle.text.proofs.patterns.write_pattern.Given as goal
 
 abbrev pub invariant-loop-k : goal.invariant-loop-k

@@ -1,4 +1,4 @@
-use Rattle.std.proofs.Common.{◌-◌, ◌/◌, ◌^◌, ◌∙◌, arith, rules, eq-eqb, ne_eqb}
+use Rattle.std.proofs.Common.{◌-◌, ◌∙◌, arith, eq-eqb, ne_eqb}
 use Rattle.words.proofs.Tests.{and-on, and-off}
 use Rattle.words.proofs.WordLaws.{below-narrow, below-wide, below_all}
 use Rattle.words.proofs.BitLaws.{below-shift}

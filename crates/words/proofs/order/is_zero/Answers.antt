@@ -1,5 +1,4 @@
 use Rattle.words.proofs.WordLaws.{zero-made}
-use Rattle.std.proofs.Common.{rules}
 use Rattle.words.proofs.order.is_zero.Goals as goal
 
 pub returns : goal.returns

@@ -1,4 +1,4 @@
-use Rattle.std.proofs.Common.{arith, length-set, rules}
+use Rattle.std.proofs.Common.{arith, length-set}
 use Rattle.words.proofs.SliceLaws.{put-inside, with-past}
 use Rattle.words.proofs.slices.put_word.Goals as goal
 

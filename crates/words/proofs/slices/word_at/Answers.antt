@@ -1,4 +1,4 @@
-use Rattle.std.proofs.Common.{◌*◌, arith, rules}
+use Rattle.std.proofs.Common.{◌*◌, arith}
 use Rattle.words.proofs.SliceLaws.{read-inside, read_past}
 use Rattle.words.proofs.slices.word_at.Goals as goal
 

@@ -1,4 +1,4 @@
-use Rattle.std.proofs.Common.{arith, rules}
+use Rattle.std.proofs.Common.{arith}
 use Rattle.words.proofs.WordLaws.{before-made, before-zero}
 use Rattle.words.proofs.steps.before.Goals as goal
 

@@ -1,4 +1,4 @@
-use Rattle.std.proofs.Common.{◌+◌, ◌/◌, ◌^◌, arith, rules}
+use Rattle.std.proofs.Common.{◌+◌, ◌/◌, ◌^◌, arith}
 use Rattle.words.proofs.WordLaws.{plus-made}
 use Rattle.words.proofs.steps.plus.Goals as goal
 

@@ -1,5 +1,4 @@
 use Rattle.words.proofs.WordLaws.{pushed-made}
-use Rattle.std.proofs.Common.{rules}
 use Rattle.words.proofs.steps.pushed.Goals as goal
 
 pub returns : goal.returns

@@ -5,7 +5,6 @@ use Rattle.swaps.specs.SwapCalls.{to_swapped_answer, applied_header}
 use Rattle.swaps.specs.declared.swaps.ToSwapped.{ToSwapped}
 use Rattle.words.specs.declared.Word.{Word}
 use mathlib.Core.Path.{sym, ap, ◌∙◌}
-use borrow.Author.Rules.{rules}
 use Rattle.swaps.proofs.swaps.Swap.apply.Goals as goal
 
 pub returns-in-Refused : goal.returns-in-Refused

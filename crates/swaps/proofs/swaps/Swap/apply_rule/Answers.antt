@@ -6,7 +6,6 @@ use Rattle.swaps.specs.declared.swaps.MovedRule.{MovedRule}
 use Rattle.words.specs.declared.Word.{Word}
 use mathlib.Core.Path.{sym, ap, ap₂, ◌∙◌}
 use Rattle.swaps.specs.Swaps.{moved_rule}
-use borrow.Author.Rules.{rules}
 use Rattle.swaps.proofs.swaps.Swap.apply_rule.Goals as goal
 
 pub returns-in-Refused : goal.returns-in-Refused

@@ -5,7 +5,6 @@ use Rattle.swaps.specs.SwapCalls.{swap_of, joined}
 use mathlib.Core.Path.{ap}
 use mathlib.Core.List.{List}
 use Prim.Native.Nat.{ℕ}
-use borrow.Author.Rules.{rules}
 use Rattle.swaps.proofs.swaps.Swap.compose.Goals as goal
 
 pub returns-in-Refused : goal.returns-in-Refused

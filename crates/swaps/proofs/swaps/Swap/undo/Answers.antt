@@ -5,7 +5,6 @@ use Rattle.swaps.specs.SwapCalls.{to_wire_answer, undone_header}
 use Rattle.swaps.specs.declared.swaps.ToWire.{ToWire}
 use Rattle.words.specs.declared.Word.{Word}
 use mathlib.Core.Path.{sym, ap, ◌∙◌}
-use borrow.Author.Rules.{rules}
 use Rattle.swaps.proofs.swaps.Swap.undo.Goals as goal
 
 pub returns-in-Refused : goal.returns-in-Refused
