@@ -8,8 +8,12 @@ ghost use Rattle.std.specs.Prelude.{◌≤◌, length};
 
 use std::env::FillError;
 use std::fs;
+use std::fs::OpenOptions;
 use std::io::{Print, Read};
 use std::rt::{Env, Files};
+
+// Room for any name of a file.
+pub const NAME_ROOM: usize = 4096;
 
 // Writes bytes to standard output. Nothing is said of a write that fails, and what follows it is written all the same.
 pub fn say(rt: &impl Print, bytes: &[u8]) {
@@ -49,6 +53,33 @@ pub fn open<R: Files>(rt: &R, name: &[u8]) -> Option<R::File> {
         return None;
     };
     fs::open(rt, text).ok()
+}
+
+// Makes a file that is not there yet, and opens it for writing.
+pub fn create<R: Files>(rt: &R, name: &[u8]) -> Option<R::File> {
+    let Ok(text) = str::from_utf8(name) else {
+        return None;
+    };
+    OpenOptions::new()
+        .write(true)
+        .create_new(true)
+        .open(rt, text)
+        .ok()
+}
+
+// Gives a file another name, in the place of the file that has it, if there is one; whether that was done.
+pub fn rename(rt: &impl Files, from: &[u8], to: &[u8]) -> bool {
+    match (str::from_utf8(from), str::from_utf8(to)) {
+        (Ok(old), Ok(new)) => fs::rename(rt, old, new).is_ok(),
+        _ => false,
+    }
+}
+
+// Removes a file, if it is there.
+pub fn remove(rt: &impl Files, name: &[u8]) {
+    if let Ok(text) = str::from_utf8(name) {
+        let _ = fs::remove_file(rt, text);
+    }
 }
 
 // Reads until the slice is full, the input ends or a read fails, and answers how many bytes stand at the start of the slice then.
