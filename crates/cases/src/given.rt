@@ -9,7 +9,7 @@ use rules::Rule;
 use words::Word;
 
 // How many places were filled, and the position after what was read.
-#[derive(Drop)]
+#[derive(Clone, Copy)]
 pub struct Filled {
     pub count: usize,
     pub at: usize,
@@ -39,7 +39,7 @@ fn room(count: usize, more: u64, length: usize, start: usize, end: usize) -> usi
 }
 
 // What follows a number of a slice: itself, the next number, or what is left of it above its lowest byte, which alone is lent of it.
-#[derive(Drop)]
+#[derive(Clone, Copy)]
 enum Way {
     Same,
     Up,
@@ -58,7 +58,7 @@ fn rest_of(x: Word, way: Way) -> Word {
 }
 
 // Some numbers of a slice: how many, the first, and how they go on.
-#[derive(Drop)]
+#[derive(Clone, Copy)]
 struct Item {
     value: Word,
     times: u64,
@@ -258,7 +258,7 @@ fn lent(s: &[u8], from: usize, out: &mut [u64]) -> Filled {
 }
 
 // A slice of words that an argument hands in: the first `count` of its numbers, and the position after them.
-#[derive(Drop)]
+#[derive(Clone, Copy)]
 pub struct Numbers {
     pub numbers: [u64; 8224],
     pub count: usize,
@@ -276,7 +276,7 @@ pub fn read_numbers(s: &[u8], from: usize, name: usize) -> Numbers {
 }
 
 // A slice of decisions, ids or counts.
-#[derive(Drop)]
+#[derive(Clone, Copy)]
 pub struct Shorts {
     pub numbers: [u16; 4112],
     pub count: usize,
@@ -295,7 +295,7 @@ pub fn read_shorts(s: &[u8], from: usize, name: usize) -> Shorts {
 }
 
 // A slice of numbers of 32 bits, which five-field rules are lent in.
-#[derive(Drop)]
+#[derive(Clone, Copy)]
 pub struct Fields {
     pub numbers: [u32; 4112],
     pub count: usize,
@@ -325,7 +325,7 @@ pub fn bytes_to(s: &[u8], from: usize, out: &mut [u8]) -> Filled {
 }
 
 // A slice of bytes.
-#[derive(Drop)]
+#[derive(Clone, Copy)]
 pub struct Bytes {
     pub bytes: [u8; 65600],
     pub count: usize,
@@ -343,7 +343,7 @@ pub fn read_bytes(s: &[u8], from: usize, name: usize) -> Bytes {
 }
 
 // A rule, and the position after it.
-#[derive(Drop)]
+#[derive(Clone, Copy)]
 pub struct Ruled {
     pub rule: Rule,
     pub at: usize,
@@ -409,7 +409,7 @@ fn rule(s: &[u8], from: usize) -> Ruled {
 }
 
 // A list: its three slices, how many numbers each of them has, and the position after it.
-#[derive(Drop)]
+#[derive(Clone, Copy)]
 pub struct List {
     pub care: [u64; 8224],
     pub value: [u64; 8224],
@@ -479,7 +479,7 @@ pub fn one_rule(s: &[u8], from: usize, name: usize) -> Ruled {
 }
 
 // Two rules, and the position after them.
-#[derive(Drop)]
+#[derive(Clone, Copy)]
 pub struct Two {
     pub first: Rule,
     pub second: Rule,

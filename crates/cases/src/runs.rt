@@ -4,7 +4,7 @@ use crate::source::{after, is_next};
 use crate::{given, slices};
 
 // The four slices, how many numbers each of them has, and the position after them.
-#[derive(Drop)]
+#[derive(Clone, Copy)]
 pub struct Runs {
     pub first: [u64; 8224],
     pub last: [u64; 8224],

@@ -112,7 +112,7 @@ pub fn answer_at(s: &[u8], from: usize, to: usize) -> usize {
 }
 
 // A number, and the position after it.
-#[derive(Drop)]
+#[derive(Clone, Copy)]
 pub struct Taken {
     pub value: u64,
     pub at: usize,
@@ -128,7 +128,7 @@ fn meant(word: &[u8]) -> Number {
 }
 
 // A number that a word holds, and the position after it.
-#[derive(Drop)]
+#[derive(Clone, Copy)]
 pub struct Given {
     pub word: Word,
     pub at: usize,
