@@ -54,10 +54,11 @@ fn line_end(s: &[u8], at: usize) -> usize {
 // Where a case ends whose first line ends here: lines that start with a space go on with it.
 fn case_end(s: &[u8], first_end: usize) -> usize {
     let mut end = first_end;
-    let mut left = s.len();
-    while left > 0 && byte(s, next(end)) == 32 {
+    for _ in 0..s.len() {
+        if byte(s, next(end)) != 32 {
+            break;
+        }
         end = line_end(s, next(end));
-        left -= 1;
     }
     end
 }
@@ -65,12 +66,10 @@ fn case_end(s: &[u8], first_end: usize) -> usize {
 // How many lines end in a part of the text.
 fn lines_in(s: &[u8], from: usize, end: usize) -> u64 {
     let mut n = 0;
-    let mut at = from;
-    while at < end {
+    for at in from..end {
         if byte(s, at) == 10 {
-            n = std::num::wrapping_add_u64(n, 1);
+            n = n.wrapping_add(1);
         }
-        at += 1;
     }
     n
 }
@@ -138,9 +137,9 @@ struct Tried {
 fn counted(t: Tried, end: usize, lines: u64, cases: u64, failed: u64) -> Tried {
     Tried {
         at: end,
-        line: std::num::wrapping_add_u64(t.line, lines),
-        cases: std::num::wrapping_add_u64(t.cases, cases),
-        failed: std::num::wrapping_add_u64(t.failed, failed),
+        line: t.line.wrapping_add(lines),
+        cases: t.cases.wrapping_add(cases),
+        failed: t.failed.wrapping_add(failed),
     }
 }
 
@@ -168,10 +167,11 @@ fn try_part(rt: &impl Print, path: &[u8], s: &[u8], from: Tried) -> Tried {
     let end = if s.len() < 262144 { s.len() } else { 131073 };
     let mut t = from;
     t.at = 0;
-    let mut left = s.len();
-    while left > 0 && t.at < end {
+    for _ in 0..s.len() {
+        if t.at >= end {
+            break;
+        }
         t = try_next(rt, path, s, t);
-        left -= 1;
     }
     t
 }
@@ -179,10 +179,8 @@ fn try_part(rt: &impl Print, path: &[u8], s: &[u8], from: Tried) -> Tried {
 // Moves what stands from `from` to `end` to the front, and answers how much that is.
 fn keep(s: &mut [u8], from: usize, end: usize) -> usize {
     let mut i = 0;
-    let mut at = from;
-    while at < end {
+    for at in from..end {
         slices::put_byte(s, i, byte(s, at));
-        at += 1;
         i = next(i);
     }
     i
@@ -193,7 +191,7 @@ fn read_on(file: &mut impl Read, s: &mut [u8], from: usize, held: usize) -> usiz
     let kept = keep(s, from, held);
     if kept <= s.len() {
         let got = host::read_full(file, &mut s[kept..]);
-        std::num::wrapping_add_usize(kept, got)
+        kept.wrapping_add(got)
     } else {
         kept
     }
@@ -210,9 +208,7 @@ fn try_parts(rt: &impl Print, path: &[u8], file: &mut impl Read) -> Tried {
         failed: 0,
     };
     let mut held = 0;
-    let mut left: usize = 1000000;
-    while left > 0 {
-        left -= 1;
+    for _ in 0..1000000 {
         held = read_on(file, all, t.at, held);
         if held == 0 {
             return t;

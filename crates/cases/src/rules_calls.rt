@@ -104,8 +104,7 @@ fn look_up(
     to: usize,
 ) -> usize {
     let mut at = to;
-    let mut i = 0;
-    while i < count {
+    for i in 0..count {
         at = show::between(rt, w, at, i, show::COMMA);
         let l = looked(
             call,
@@ -116,7 +115,6 @@ fn look_up(
             words::word_at(headers, i),
         );
         at = show::looked(rt, w, at, l);
-        i += 1;
     }
     at
 }

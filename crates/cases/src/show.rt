@@ -89,7 +89,7 @@ pub const OTHERWISE: usize = 3298534883328;
 
 // Nothing is said at a bad position, as `OTHERWISE` is one too: it is what is answered.
 fn say(rt: &impl Print, w: &[u8], at: usize, said: &[u8]) -> usize {
-    let end = std::num::wrapping_add_usize(at, said.len());
+    let end = at.wrapping_add(said.len());
     if at >= ALOUD {
         host::say(rt, said);
     }
@@ -254,7 +254,7 @@ fn alike(care: &[u64], value: &[u64], decision: &[u16], i: usize, count: usize) 
     while end < count && same_items(r, item_at(care, value, decision, end)) {
         end += 1;
     }
-    let n = std::num::wrapping_sub_usize(end, i);
+    let n = end.wrapping_sub(i);
     if n < 16 { 1 } else { n }
 }
 
@@ -299,16 +299,14 @@ fn items(
         SPACE
     };
     let mut at = phrase(rt, w, from, OPEN);
-    let mut i = 0;
     let mut shown = 0;
-    while i < count {
+    for i in 0..count {
         if i == shown {
             let n = alike(care, value, decision, i, count);
             at = between(rt, w, at, i, separator);
             at = times(rt, w, at, n, kind, width, item_at(care, value, decision, i));
-            shown = std::num::wrapping_add_usize(i, n);
+            shown = i.wrapping_add(n);
         }
-        i += 1;
     }
     phrase(rt, w, left_over(rt, w, at, care), CLOSE)
 }
@@ -469,8 +467,7 @@ fn runs_of(
     new: &[u16],
 ) -> usize {
     let mut at = phrase(rt, w, from, OPEN);
-    let mut i = 0;
-    while i < old.len() {
+    for i in 0..old.len() {
         at = run(
             rt,
             w,
@@ -480,7 +477,6 @@ fn runs_of(
             slices::short_at(old, i),
             slices::short_at(new, i),
         );
-        i += 1;
     }
     phrase(rt, w, at, CLOSE)
 }

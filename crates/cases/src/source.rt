@@ -75,10 +75,8 @@ pub fn part(s: &[u8], from: usize, end: usize) -> &[u8] {
 // The phrase with this number in a text, where a | stands between two.
 pub fn phrase_of(s: &[u8], k: usize) -> &[u8] {
     let mut from = 0;
-    let mut left = k;
-    while left > 0 {
+    for _ in 0..k {
         from = next(byte_from(s, from, s.len(), 124));
-        left -= 1;
     }
     part(s, from, byte_from(s, from, s.len(), 124))
 }

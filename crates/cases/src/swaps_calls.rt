@@ -30,10 +30,8 @@ fn swap_in(s: &[u8], from: usize) -> Given {
 // The swap of 128 places that leaves each where it is.
 fn still() -> Swap {
     let mut places = [0u8; 128];
-    let mut left: usize = 128;
-    while left > 0 {
-        places[left - 1] = left as u8;
-        left -= 1;
+    for place in 0..128 {
+        places[place] = (place + 1) as u8;
     }
     Swap { places, width: 128 }
 }

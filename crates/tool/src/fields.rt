@@ -50,10 +50,8 @@ fn show(rt: &impl Print, bits: u32, low: u32, high: u32) {
 }
 
 fn show_patterns(rt: &impl Print, bits: u32, care: &[u16], value: &[u16]) {
-    let mut i = 0;
-    while i < care.len() && i < value.len() {
-        show_pattern(rt, bits, care[i], value[i]);
-        i += 1;
+    for (c, v) in care.iter().zip(value) {
+        show_pattern(rt, bits, *c, *v);
     }
 }
 

@@ -52,10 +52,8 @@ pub(crate) fn tell(rt: &impl Print, image: &[u8], request: Request) {
 
 // Says of one list after the other what the command asks for. An image has at most 16.
 pub(crate) fn each(rt: &impl Print, image: &[u8], request: Request) {
-    let mut left: usize = 16;
-    while left > 0 {
-        say_entry(rt, image, 17 - left, request);
-        left -= 1;
+    for k in 1..17 {
+        say_entry(rt, image, k, request);
     }
 }
 

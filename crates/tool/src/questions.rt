@@ -56,11 +56,9 @@ fn answered(
 }
 
 fn show_rules(rt: &impl Print, width: u32, care: &[u64], value: &[u64], decision: &[u16]) {
-    let mut i = 0;
-    while i < decision.len() {
+    for i in 0..decision.len() {
         lines::rule(rt, width, rules::rule_at(care, value, decision, i));
         lines::byte(rt, b'\n');
-        i += 1;
     }
 }
 
@@ -91,10 +89,8 @@ fn runs(rt: &impl Print, width: u32, care: &[u64], value: &[u64], decision: &[u1
 }
 
 fn show_sizes(rt: &impl Print, sizes: &[u16]) {
-    let mut i = 0;
-    while i < sizes.len() {
-        lines::last(rt, sizes[i] as usize);
-        i += 1;
+    for size in sizes {
+        lines::last(rt, *size as usize);
     }
     lines::named(rt, b"runs ", sizes.len());
 }
@@ -126,10 +122,8 @@ fn show_swap(rt: &impl Print, swap: Swap) {
 }
 
 fn show_places(rt: &impl Print, places: &[u8]) {
-    let mut i = 0;
-    while i < places.len() {
+    for place in places {
         lines::byte(rt, b' ');
-        lines::number(rt, places[i] as usize);
-        i += 1;
+        lines::number(rt, *place as usize);
     }
 }

@@ -97,10 +97,8 @@ fn show_kept(
     let kept = tally.kept;
     counts(rt, kept, tally.dropped);
     lines::byte(rt, b'\n');
-    let mut i = 0;
-    while i < kept {
+    for i in 0..kept {
         lines::rule(rt, width, rules::rule_at(care, value, decision, i));
         lines::needed(rt, words::word_at(header, i));
-        i += 1;
     }
 }

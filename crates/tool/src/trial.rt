@@ -31,8 +31,7 @@ fn finish(rt: &(impl Env + Files + Print), at: usize, end: usize) {
 pub(crate) fn all(rt: &(impl Env + Files + Print)) {
     let count = host::word_count(rt);
     let mut at = count;
-    let mut i = 0;
-    while i < count {
+    for i in 0..count {
         if is_name(rt, i) {
             finish(rt, at, i);
             show_name(rt);
@@ -40,7 +39,6 @@ pub(crate) fn all(rt: &(impl Env + Files + Print)) {
         } else if at < i {
             show_word(rt, i);
         }
-        i += 1;
     }
     finish(rt, at, count);
 }
