@@ -65,7 +65,7 @@ fn case_end(s: &[u8], first_end: usize) -> usize {
 
 // How many lines end in a part of the text.
 fn lines_in(s: &[u8], from: usize, end: usize) -> u64 {
-    let mut n = 0;
+    let mut n = 0u64;
     for at in from..end {
         if byte(s, at) == 10 {
             n = n.wrapping_add(1);
