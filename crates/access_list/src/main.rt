@@ -1,11 +1,13 @@
 // An example, which the README goes through: three five-field rules become a list of ternary rules, and an image with this list goes to
 // standard output.
+#![tactic(auto)]
+
 use five_fields::Expanded;
 use image::NumberAnswer;
 
 // Port 80 of 192.168.1.0/24, over protocol 6, is open to 10.0.0.0/8; the other ports up to 1,023 are closed to everybody; the rest is
 // open. Here 1 and 3 let a packet through, and 2 does not.
-fn main() {
+fn main(rt: HostRuntime) {
     let source = [0x0a000000u32, 0, 0];
     let source_length = [8u32, 0, 0];
     let destination = [0xc0a80100u32, 0, 0];
@@ -47,7 +49,7 @@ fn main() {
             &mut image,
         );
         if let NumberAnswer::Number(_) = written {
-            io::write_all(1, &image);
+            host::say(&rt, &image);
         }
     }
 }

@@ -1,17 +1,20 @@
 // The bench program: takes old.img and new.img from the folder that it is run in, compares their first lists, and writes the runs
 // of headers on which these answer differently. A file that is not there is read as one of no bytes.
+#![tactic(auto)]
+
 use compare::Ending;
+use host::{say, say_number};
 
 // There is room for a byte more than the largest image, so that a larger file is refused and not cut.
-fn main() {
+fn main(rt: HostRuntime) {
     let mut old = [0u8; 65537];
     let mut new = [0u8; 65537];
-    let held = run_lines::show_files(b"old.img", b"new.img", &mut old, &mut new);
+    let held = run_lines::show_files(&rt, b"old.img", b"new.img", &mut old, &mut new);
     let compared = held.compared;
     let ending = compared.ending;
     if let Ending::Refused(x) = ending {
-        io::write_all(1, b"refused ");
-        io::print_decimal(1, x.number as u64);
-        io::write_all(1, b"\n");
+        say(&rt, b"refused ");
+        say_number(&rt, x.number as u64);
+        say(&rt, b"\n");
     }
 }

@@ -4,10 +4,11 @@ use crate::source::{after, answer_at, header, is_next, named_if, number};
 use crate::{given, names, runs, show, slices};
 use compare_check::Default;
 use rules::Wire;
+use std::io::Print;
 use words::Word;
 
 // A default, and the position after it.
-#[derive(Drop)]
+#[derive(Clone, Copy)]
 struct Side {
     default: Default,
     at: usize,
@@ -37,6 +38,7 @@ fn default_if(has: bool, s: &[u8], from: usize) -> Side {
 
 // `new`: the list that the old one is compared with. Each list has its `default` behind it in the call `compare_outcomes`.
 pub fn on_list(
+    rt: &impl Print,
     call: usize,
     s: &[u8],
     at: usize,
@@ -54,6 +56,7 @@ pub fn on_list(
     let value = l.value;
     let decision = l.decision;
     on_lists(
+        rt,
         call,
         s,
         l.at,
@@ -72,6 +75,7 @@ pub fn on_list(
 
 // `start` and `into`.
 fn on_lists(
+    rt: &impl Print,
     call: usize,
     s: &[u8],
     from: usize,
@@ -92,6 +96,7 @@ fn on_lists(
     let word = start.word;
     let r = runs::read_runs(s, start.at);
     compare_lists(
+        rt,
         call,
         width,
         old_care,
@@ -110,6 +115,7 @@ fn on_lists(
 }
 
 fn compare_lists(
+    rt: &impl Print,
     call: usize,
     width: u32,
     oc: &[u64],
@@ -157,11 +163,11 @@ fn compare_lists(
     r.last = last;
     r.old = old;
     r.new = new;
-    show::runs(w, show::compared(w, to, c), r)
+    show::runs(rt, w, show::compared(rt, w, to, c), r)
 }
 
 // One of two images, as a call has it: the id of its list, and its default.
-#[derive(Drop)]
+#[derive(Clone, Copy)]
 struct Asked {
     id: u16,
     default: Default,
@@ -182,7 +188,14 @@ fn asked_of(call: usize, s: &[u8], from: usize) -> Asked {
 }
 
 // `old` and `new`, each with what stands behind it.
-pub fn on_images(call: usize, s: &[u8], from: usize, w: &[u8], to: usize) -> usize {
+pub fn on_images(
+    rt: &impl Print,
+    call: usize,
+    s: &[u8],
+    from: usize,
+    w: &[u8],
+    to: usize,
+) -> usize {
     let o = given::read_bytes(s, from, names::OLD);
     let a = asked_of(call, s, o.at);
     let n = given::read_bytes(s, a.at, names::NEW);
@@ -190,6 +203,7 @@ pub fn on_images(call: usize, s: &[u8], from: usize, w: &[u8], to: usize) -> usi
     let old = o.bytes;
     let new = n.bytes;
     with_images(
+        rt,
         call,
         s,
         slices::bytes(&old, o.count),
@@ -203,6 +217,7 @@ pub fn on_images(call: usize, s: &[u8], from: usize, w: &[u8], to: usize) -> usi
 
 // `start` and `into`.
 fn with_images(
+    rt: &impl Print,
     call: usize,
     s: &[u8],
     old: &[u8],
@@ -216,11 +231,12 @@ fn with_images(
     let word = start.word;
     let r = runs::read_runs(s, start.at);
     let at = answer_at(s, r.at, to);
-    compare_images(call, old, a, new, b, Wire(word), r, w, at)
+    compare_images(rt, call, old, a, new, b, Wire(word), r, w, at)
 }
 
 // The lists with these ids, or the first ones.
 fn compare_images(
+    rt: &impl Print,
     call: usize,
     oi: &[u8],
     a: Asked,
@@ -255,5 +271,5 @@ fn compare_images(
     r.last = last;
     r.old = old;
     r.new = new;
-    show::runs(w, show::compared(w, to, c), r)
+    show::runs(rt, w, show::compared(rt, w, to, c), r)
 }

@@ -7,7 +7,7 @@ use crate::source::{after, is_next};
 use crate::{given, slices};
 
 // The ten slices, how many numbers each of them has, and the position after them.
-#[derive(Drop)]
+#[derive(Clone, Copy)]
 pub struct FiveFieldRules {
     pub source: [u32; 4112],
     pub source_length: [u32; 4112],

@@ -3,19 +3,20 @@ use crate::source::{after, answer_at, bad, is_bad};
 use crate::{five_field_rules, given, names, show, slices};
 use five_fields::Expanded;
 use five_numbers::{Built, Numbers};
+use std::io::Print;
 
 // The places of a header of five fields.
 const PLACES: u32 = 104;
 
-fn show_expanded(w: &[u8], to: usize, e: Expanded) -> usize {
+fn show_expanded(rt: &impl Print, w: &[u8], to: usize, e: Expanded) -> usize {
     match e {
-        Expanded::Entries(n) => show::number(w, to, n as u64),
-        Expanded::Refused(x) => show::refusal(w, to, x),
+        Expanded::Entries(n) => show::number(rt, w, to, n as u64),
+        Expanded::Refused(x) => show::refusal(rt, w, to, x),
     }
 }
 
 // The calls on `rules`: with a list that takes the entries, or none.
-pub fn on_rules(call: usize, s: &[u8], from: usize, w: &[u8], to: usize) -> usize {
+pub fn on_rules(rt: &impl Print, call: usize, s: &[u8], from: usize, w: &[u8], to: usize) -> usize {
     let r = five_field_rules::read_rules(s, from);
     let source = r.source;
     let source_length = r.source_length;
@@ -28,6 +29,7 @@ pub fn on_rules(call: usize, s: &[u8], from: usize, w: &[u8], to: usize) -> usiz
     let protocol = r.protocol;
     let decision = r.decision;
     with_rules(
+        rt,
         call,
         s,
         r.at,
@@ -47,6 +49,7 @@ pub fn on_rules(call: usize, s: &[u8], from: usize, w: &[u8], to: usize) -> usiz
 }
 
 fn with_rules(
+    rt: &impl Print,
     call: usize,
     s: &[u8],
     at: usize,
@@ -65,6 +68,7 @@ fn with_rules(
 ) -> usize {
     match call {
         names::EXPAND => expand(
+            rt,
             s,
             at,
             source,
@@ -93,13 +97,14 @@ fn with_rules(
                 protocol,
                 decision,
             );
-            show_expanded(w, answer_at(s, at, to), e)
+            show_expanded(rt, w, answer_at(s, at, to), e)
         }
     }
 }
 
 // `into`: the list that takes the entries.
 fn expand(
+    rt: &impl Print,
     s: &[u8],
     at: usize,
     source: &[u32],
@@ -137,8 +142,8 @@ fn expand(
     l.care = to_care;
     l.value = to_value;
     l.decision = to_decision;
-    let answer = show_expanded(w, answer_at(s, l.at, to), e);
-    show::list(w, show::phrase(w, answer, show::INTO), PLACES, l)
+    let answer = show_expanded(rt, w, answer_at(s, l.at, to), e);
+    show::list(rt, w, show::phrase(rt, w, answer, show::INTO), PLACES, l)
 }
 
 // A number of 32 bits.
@@ -156,10 +161,10 @@ fn five_of(numbers: &[u64]) -> Numbers {
     }
 }
 
-fn show_built(w: &[u8], to: usize, b: Built) -> usize {
+fn show_built(rt: &impl Print, w: &[u8], to: usize, b: Built) -> usize {
     match b {
-        Built::Header(h) => show::wide_number(w, to, h.0),
-        Built::Refused(x) => show::refusal(w, to, x),
+        Built::Header(h) => show::wide_number(rt, w, to, h.0),
+        Built::Refused(x) => show::refusal(rt, w, to, x),
     }
 }
 
@@ -173,10 +178,10 @@ fn after_five(count: usize, start: usize, end: usize) -> usize {
 }
 
 // `numbers`: the five numbers of a header.
-pub fn header(s: &[u8], from: usize, w: &[u8], to: usize) -> usize {
+pub fn header(rt: &impl Print, s: &[u8], from: usize, w: &[u8], to: usize) -> usize {
     let start = after(s, from, names::NUMBERS);
     let mut numbers = [0u64; 10];
     let f = given::words_to(s, start, 32, &mut numbers);
     let at = answer_at(s, after_five(f.count, start, f.at), to);
-    show_built(w, at, five_numbers::header(five_of(&numbers)))
+    show_built(rt, w, at, five_numbers::header(five_of(&numbers)))
 }

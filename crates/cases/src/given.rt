@@ -9,7 +9,7 @@ use rules::Rule;
 use words::Word;
 
 // How many places were filled, and the position after what was read.
-#[derive(Drop)]
+#[derive(Clone, Copy)]
 pub struct Filled {
     pub count: usize,
     pub at: usize,
@@ -39,7 +39,7 @@ fn room(count: usize, more: u64, length: usize, start: usize, end: usize) -> usi
 }
 
 // What follows a number of a slice: itself, the next number, or what is left of it above its lowest byte, which alone is lent of it.
-#[derive(Drop)]
+#[derive(Clone, Copy)]
 enum Way {
     Same,
     Up,
@@ -51,14 +51,14 @@ fn rest_of(x: Word, way: Way) -> Word {
         Way::Same => x,
         Way::Up => words::plus(x, words::wide(1)),
         Way::Bytes => Word {
-            low: std::num::wrapping_add_u64(x.low / 256, x.high % 256 * 72057594037927936),
+            low: (x.low / 256).wrapping_add(x.high % 256 * 72057594037927936),
             high: x.high / 256,
         },
     }
 }
 
 // Some numbers of a slice: how many, the first, and how they go on.
-#[derive(Drop)]
+#[derive(Clone, Copy)]
 struct Item {
     value: Word,
     times: u64,
@@ -134,12 +134,10 @@ fn next_item(s: &[u8], from: usize, bits: u32) -> Item {
 fn put_numbers(out: &mut [u64], from: usize, value: Word, times: u64, way: Way) -> usize {
     let mut x = value;
     let mut i = from;
-    let mut left = times;
-    while left > 0 {
+    for _ in 0..times {
         words::put_word(out, i, x);
         x = rest_of(x, way);
         i = next(i);
-        left -= 1;
     }
     i
 }
@@ -159,8 +157,8 @@ fn put_rule(s: &[u8], f: Filled, out: &mut [u64]) -> Filled {
     let t = times(s, f.at);
     let r = rule(s, t.at);
     let rule = r.rule;
-    let second = std::num::wrapping_add_usize(f.count, 4112);
-    let third = std::num::wrapping_add_usize(f.count, 8224);
+    let second = f.count.wrapping_add(4112);
+    let third = f.count.wrapping_add(8224);
     put_numbers(out, second, rule.value, t.value, Way::Same);
     put_numbers(
         out,
@@ -190,9 +188,10 @@ fn words_after(s: &[u8], from: usize, bits: u32, out: &mut [u64]) -> Filled {
         count: 0,
         at: bracket(s, from, 91),
     };
-    let mut left = s.len();
-    while left > 0 && is_more(s, f.at) {
-        left -= 1;
+    for _ in 0..s.len() {
+        if !is_more(s, f.at) {
+            break;
+        }
         f = match bits {
             RULES => put_rule(s, f, out),
             _ => put_item(s, f, bits, out),
@@ -241,7 +240,7 @@ pub fn whole_rows(
 // A slice of words: its words, and after `half` one more number at its end. Its numbers are counted, two to a word.
 fn lent(s: &[u8], from: usize, out: &mut [u64]) -> Filled {
     let f = words_after(s, from, 128, out);
-    let count = std::num::wrapping_add_usize(f.count, f.count);
+    let count = f.count.wrapping_add(f.count);
     if is_next(s, f.at, HALF) {
         let half = number(s, after(s, f.at, HALF), 18446744073709551615);
         slices::put_number(out, count, half.value);
@@ -258,7 +257,7 @@ fn lent(s: &[u8], from: usize, out: &mut [u64]) -> Filled {
 }
 
 // A slice of words that an argument hands in: the first `count` of its numbers, and the position after them.
-#[derive(Drop)]
+#[derive(Clone, Copy)]
 pub struct Numbers {
     pub numbers: [u64; 8224],
     pub count: usize,
@@ -276,7 +275,7 @@ pub fn read_numbers(s: &[u8], from: usize, name: usize) -> Numbers {
 }
 
 // A slice of decisions, ids or counts.
-#[derive(Drop)]
+#[derive(Clone, Copy)]
 pub struct Shorts {
     pub numbers: [u16; 4112],
     pub count: usize,
@@ -295,7 +294,7 @@ pub fn read_shorts(s: &[u8], from: usize, name: usize) -> Shorts {
 }
 
 // A slice of numbers of 32 bits, which five-field rules are lent in.
-#[derive(Drop)]
+#[derive(Clone, Copy)]
 pub struct Fields {
     pub numbers: [u32; 4112],
     pub count: usize,
@@ -325,7 +324,7 @@ pub fn bytes_to(s: &[u8], from: usize, out: &mut [u8]) -> Filled {
 }
 
 // A slice of bytes.
-#[derive(Drop)]
+#[derive(Clone, Copy)]
 pub struct Bytes {
     pub bytes: [u8; 65600],
     pub count: usize,
@@ -343,7 +342,7 @@ pub fn read_bytes(s: &[u8], from: usize, name: usize) -> Bytes {
 }
 
 // A rule, and the position after it.
-#[derive(Drop)]
+#[derive(Clone, Copy)]
 pub struct Ruled {
     pub rule: Rule,
     pub at: usize,
@@ -379,7 +378,7 @@ fn is_place(b: u8) -> bool {
 
 // The end of a pattern that was read up to a position; a bad one where that is not all of it, or it has more than 128 places.
 fn pattern_end(from: usize, at: usize, end: usize) -> usize {
-    if at == end && std::num::wrapping_sub_usize(end, from) <= 128 {
+    if at == end && end.wrapping_sub(from) <= 128 {
         end
     } else {
         bad(from)
@@ -409,7 +408,7 @@ fn rule(s: &[u8], from: usize) -> Ruled {
 }
 
 // A list: its three slices, how many numbers each of them has, and the position after it.
-#[derive(Drop)]
+#[derive(Clone, Copy)]
 pub struct List {
     pub care: [u64; 8224],
     pub value: [u64; 8224],
@@ -443,7 +442,7 @@ fn by_rules(s: &[u8], from: usize) -> List {
     let mut numbers = [0u64; 24672];
     let f = words_to(s, from, RULES, &mut numbers);
     let all: &[u64] = &numbers;
-    let twice = std::num::wrapping_add_usize(f.count, f.count);
+    let twice = f.count.wrapping_add(f.count);
     let care = slices::words_of(all, 0, 1, f.count);
     let value = slices::words_of(all, 4112, 1, f.count);
     let decision = slices::shorts_of(all, 8224, 1, f.count);
@@ -479,7 +478,7 @@ pub fn one_rule(s: &[u8], from: usize, name: usize) -> Ruled {
 }
 
 // Two rules, and the position after them.
-#[derive(Drop)]
+#[derive(Clone, Copy)]
 pub struct Two {
     pub first: Rule,
     pub second: Rule,

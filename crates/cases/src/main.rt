@@ -1,5 +1,7 @@
 // Tries the libraries on the cases in text files, whose names are the program's arguments. docs/CASES.md has the form of a case. A
 // case with an answer beside it is held to that; of one without, the answer is written. Each file ends with a line that counts.
+#![tactic(auto)]
+
 mod calls;
 mod compare_calls;
 mod files;
@@ -17,11 +19,8 @@ mod source;
 mod swaps_calls;
 mod weaving_calls;
 
-fn main() {
-    let count = os::arg_count();
-    let mut i = 1;
-    while i < count {
-        files::try_file(i);
-        i += 1;
+fn main(rt: HostRuntime) {
+    for i in 1..host::word_count(&rt) {
+        files::try_file(&rt, i);
     }
 }

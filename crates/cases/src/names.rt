@@ -180,14 +180,12 @@ fn place_of(word: &[u8], all: &[u8]) -> usize {
         return 99;
     }
     let mut at = 0;
-    let mut k = 0;
-    while k < 86 {
+    for k in 0..86 {
         let from = word_start(all, at);
         at = word_end(all, from);
         if check::same(part(all, from, at), word) {
             return k;
         }
-        k += 1;
     }
     99
 }

@@ -3,10 +3,12 @@
 use crate::source::{Taken, after, answer_at, named, named_if};
 use crate::{given, names, show, slices, swaps_calls};
 use rules::{Looked, Wire};
+use std::io::Print;
 use words::Word;
 
 // The calls that have a list, and most of them a number after it: `as`, or `place` or `position`, which are counted from 0.
 pub fn on_list(
+    rt: &impl Print,
     call: usize,
     s: &[u8],
     from: usize,
@@ -27,24 +29,27 @@ pub fn on_list(
     let number = n.value as usize;
     match call {
         names::CHECK_LIST => {
-            show::verdict(w, at, rules::check_list(width, care, value, decision))
+            show::verdict(rt, w, at, rules::check_list(width, care, value, decision))
         }
         names::CHECK_LIST_AS => show::verdict(
+            rt,
             w,
             at,
             rules::check_list_as(number, width, care, value, decision),
         ),
         names::NEEDED_AT => show::needed(
+            rt,
             w,
             at,
             compare::needed_at(width, care, value, decision, number),
         ),
-        _ => show::rule(w, at, 0, rules::rule_at(care, value, decision, number)),
+        _ => show::rule(rt, w, at, 0, rules::rule_at(care, value, decision, number)),
     }
 }
 
 // `headers`: each of them is looked up.
 pub fn lookups(
+    rt: &impl Print,
     call: usize,
     s: &[u8],
     at: usize,
@@ -58,6 +63,7 @@ pub fn lookups(
     let mut headers = [0u64; 8224];
     let f = given::words_to(s, after(s, at, names::HEADERS), 128, &mut headers);
     look_up(
+        rt,
         call,
         width,
         care,
@@ -86,6 +92,7 @@ fn looked(
 }
 
 fn look_up(
+    rt: &impl Print,
     call: usize,
     width: u32,
     care: &[u64],
@@ -97,9 +104,8 @@ fn look_up(
     to: usize,
 ) -> usize {
     let mut at = to;
-    let mut i = 0;
-    while i < count {
-        at = show::between(w, at, i, show::COMMA);
+    for i in 0..count {
+        at = show::between(rt, w, at, i, show::COMMA);
         let l = looked(
             call,
             width,
@@ -108,45 +114,52 @@ fn look_up(
             decision,
             words::word_at(headers, i),
         );
-        at = show::looked(w, at, l);
-        i += 1;
+        at = show::looked(rt, w, at, l);
     }
     at
 }
 
 // The calls that have rules and no list: all that are handed in stand in brackets after the name of the argument.
-pub fn on_rules(call: usize, s: &[u8], from: usize, w: &[u8], to: usize) -> usize {
+pub fn on_rules(rt: &impl Print, call: usize, s: &[u8], from: usize, w: &[u8], to: usize) -> usize {
     let width = named_if(call < names::RULE_COVERS, s, from, names::WIDTH, 4294967295);
     let places = (width.value % 4294967296) as u32;
     match call {
-        names::CHECK_RULE => check_rule(places, s, width.at, w, to),
-        _ => pair(call, places, s, width.at, w, to),
+        names::CHECK_RULE => check_rule(rt, places, s, width.at, w, to),
+        _ => pair(rt, call, places, s, width.at, w, to),
     }
 }
 
-fn check_rule(width: u32, s: &[u8], from: usize, w: &[u8], to: usize) -> usize {
+fn check_rule(rt: &impl Print, width: u32, s: &[u8], from: usize, w: &[u8], to: usize) -> usize {
     let list = named(s, from, names::LIST, 18446744073709551615);
     let number = named(s, list.at, names::NUMBER, 18446744073709551615);
     let r = given::one_rule(s, number.at, names::RULE);
     let v = rules::check_rule(width, list.value as usize, number.value as usize, r.rule);
-    show::verdict(w, answer_at(s, r.at, to), v)
+    show::verdict(rt, w, answer_at(s, r.at, to), v)
 }
 
 // `rules`: two of them.
-fn pair(call: usize, width: u32, s: &[u8], from: usize, w: &[u8], to: usize) -> usize {
+fn pair(
+    rt: &impl Print,
+    call: usize,
+    width: u32,
+    s: &[u8],
+    from: usize,
+    w: &[u8],
+    to: usize,
+) -> usize {
     let r = given::two_rules(s, from, names::RULES);
     let at = answer_at(s, r.at, to);
     match call {
-        names::COVERS => show::holds(w, at, pairs::covers(width, r.first, r.second)),
-        names::CROSSES => show::holds(w, at, pairs::crosses(width, r.first, r.second)),
-        names::DISTANCE => show::measured(w, at, pairs::distance(width, r.first, r.second)),
-        names::RULE_COVERS => show::yes_or_no(w, at, pairs::rule_covers(r.first, r.second)),
-        _ => show::yes_or_no(w, at, pairs::rule_crosses(r.first, r.second)),
+        names::COVERS => show::holds(rt, w, at, pairs::covers(width, r.first, r.second)),
+        names::CROSSES => show::holds(rt, w, at, pairs::crosses(width, r.first, r.second)),
+        names::DISTANCE => show::measured(rt, w, at, pairs::distance(width, r.first, r.second)),
+        names::RULE_COVERS => show::yes_or_no(rt, w, at, pairs::rule_covers(r.first, r.second)),
+        _ => show::yes_or_no(rt, w, at, pairs::rule_crosses(r.first, r.second)),
     }
 }
 
 // `list`, `place` and `rule`: the list is shown as it is then.
-pub fn put_rule(s: &[u8], from: usize, w: &[u8], to: usize) -> usize {
+pub fn put_rule(rt: &impl Print, s: &[u8], from: usize, w: &[u8], to: usize) -> usize {
     let mut l = given::read_list(s, from, names::LIST);
     let place = named(s, l.at, names::PLACE, 18446744073709551615);
     let r = given::one_rule(s, place.at, names::RULE);
@@ -163,5 +176,11 @@ pub fn put_rule(s: &[u8], from: usize, w: &[u8], to: usize) -> usize {
     l.care = care;
     l.value = value;
     l.decision = decision;
-    show::list(w, show::phrase(w, answer_at(s, r.at, to), show::LIST), 0, l)
+    show::list(
+        rt,
+        w,
+        show::phrase(rt, w, answer_at(s, r.at, to), show::LIST),
+        0,
+        l,
+    )
 }

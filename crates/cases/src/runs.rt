@@ -4,7 +4,7 @@ use crate::source::{after, is_next};
 use crate::{given, slices};
 
 // The four slices, how many numbers each of them has, and the position after them.
-#[derive(Drop)]
+#[derive(Clone, Copy)]
 pub struct Runs {
     pub first: [u64; 8224],
     pub last: [u64; 8224],
@@ -46,7 +46,7 @@ fn by_numbers(s: &[u8], from: usize) -> Runs {
     let f = given::words_to(s, from, 128, &mut numbers);
     let all: &[u64] = &numbers;
     let count = f.count / 4;
-    let twice = std::num::wrapping_add_usize(count, count);
+    let twice = count.wrapping_add(count);
     let first = slices::words_of(all, 0, 4, count);
     let last = slices::words_of(all, 1, 4, count);
     let old = slices::shorts_of(all, 2, 4, count);

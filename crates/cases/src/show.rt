@@ -8,6 +8,7 @@ use crate::source::{byte, is_bad, next, part, phrase_of};
 use compare::{Compared, Ending, Needed};
 use pairs::{Holds, Measured};
 use rules::{Hit, Looked, Refusal, Rule, Verdict};
+use std::io::Print;
 use swaps::Swap;
 use words::Word;
 
@@ -87,10 +88,10 @@ pub const ALOUD: usize = 4398046511104;
 pub const OTHERWISE: usize = 3298534883328;
 
 // Nothing is said at a bad position, as `OTHERWISE` is one too: it is what is answered.
-fn say(w: &[u8], at: usize, said: &[u8]) -> usize {
-    let end = std::num::wrapping_add_usize(at, said.len());
+fn say(rt: &impl Print, w: &[u8], at: usize, said: &[u8]) -> usize {
+    let end = at.wrapping_add(said.len());
     if at >= ALOUD {
-        io::write_all(1, said);
+        host::say(rt, said);
     }
     if is_bad(at) {
         at
@@ -101,108 +102,120 @@ fn say(w: &[u8], at: usize, said: &[u8]) -> usize {
     }
 }
 
-pub fn phrase(w: &[u8], at: usize, k: usize) -> usize {
+pub fn phrase(rt: &impl Print, w: &[u8], at: usize, k: usize) -> usize {
     let all: &[u8] =
         b"fine|none|yes|no|refused | at | |, |[|]|/| finished| more from |kept | dropped | merged | into |list | swap |care | value | decision |first | last | old | new |id | rules | times |half | rule |at |nowhere| headers ";
-    say(w, at, phrase_of(all, k))
+    say(rt, w, at, phrase_of(all, k))
 }
 
-pub fn number(w: &[u8], at: usize, n: u64) -> usize {
-    wide_number(w, at, words::wide(n))
+pub fn number(rt: &impl Print, w: &[u8], at: usize, n: u64) -> usize {
+    wide_number(rt, w, at, words::wide(n))
 }
 
 // A number of up to 39 digits.
-pub fn wide_number(w: &[u8], at: usize, n: Word) -> usize {
+pub fn wide_number(rt: &impl Print, w: &[u8], at: usize, n: Word) -> usize {
     let mut digits = [0u8; 39];
     let k = text::write_number(n, &mut digits);
-    say(w, at, slices::bytes(&digits, k))
+    say(rt, w, at, slices::bytes(&digits, k))
 }
 
 // A phrase and a number.
-pub fn named(w: &[u8], at: usize, k: usize, n: u64) -> usize {
-    number(w, phrase(w, at, k), n)
+pub fn named(rt: &impl Print, w: &[u8], at: usize, k: usize, n: u64) -> usize {
+    number(rt, w, phrase(rt, w, at, k), n)
 }
 
-pub fn refusal(w: &[u8], at: usize, x: Refusal) -> usize {
-    let list = named(w, named(w, at, REFUSED, x.number as u64), AT, x.list as u64);
-    named(w, list, SPACE, x.rule as u64)
+pub fn refusal(rt: &impl Print, w: &[u8], at: usize, x: Refusal) -> usize {
+    let list = named(
+        rt,
+        w,
+        named(rt, w, at, REFUSED, x.number as u64),
+        AT,
+        x.list as u64,
+    );
+    named(rt, w, list, SPACE, x.rule as u64)
 }
 
-pub fn verdict(w: &[u8], at: usize, v: Verdict) -> usize {
+pub fn verdict(rt: &impl Print, w: &[u8], at: usize, v: Verdict) -> usize {
     match v {
-        Verdict::Fine => phrase(w, at, FINE),
-        Verdict::Refused(x) => refusal(w, at, x),
+        Verdict::Fine => phrase(rt, w, at, FINE),
+        Verdict::Refused(x) => refusal(rt, w, at, x),
     }
 }
 
 // An answer of a list: 65,535 stands for no match.
-fn answer(w: &[u8], at: usize, n: u16) -> usize {
+fn answer(rt: &impl Print, w: &[u8], at: usize, n: u16) -> usize {
     match n {
-        65535 => phrase(w, at, NONE),
-        _ => number(w, at, n as u64),
+        65535 => phrase(rt, w, at, NONE),
+        _ => number(rt, w, at, n as u64),
     }
 }
 
 // The decision of a rule that is hit, and the rule's number.
-fn hit(w: &[u8], at: usize, x: Hit) -> usize {
-    named(w, number(w, at, x.decision as u64), RULE, x.number as u64)
+fn hit(rt: &impl Print, w: &[u8], at: usize, x: Hit) -> usize {
+    named(
+        rt,
+        w,
+        number(rt, w, at, x.decision as u64),
+        RULE,
+        x.number as u64,
+    )
 }
 
-pub fn looked(w: &[u8], at: usize, l: Looked) -> usize {
+pub fn looked(rt: &impl Print, w: &[u8], at: usize, l: Looked) -> usize {
     match l {
-        Looked::Hit(x) => hit(w, at, x),
-        Looked::Miss => phrase(w, at, NONE),
-        Looked::Refused(x) => refusal(w, at, x),
+        Looked::Hit(x) => hit(rt, w, at, x),
+        Looked::Miss => phrase(rt, w, at, NONE),
+        Looked::Refused(x) => refusal(rt, w, at, x),
     }
 }
 
-pub fn yes_or_no(w: &[u8], at: usize, yes: bool) -> usize {
+pub fn yes_or_no(rt: &impl Print, w: &[u8], at: usize, yes: bool) -> usize {
     if yes {
-        phrase(w, at, YES)
+        phrase(rt, w, at, YES)
     } else {
-        phrase(w, at, NO)
+        phrase(rt, w, at, NO)
     }
 }
 
-pub fn holds(w: &[u8], at: usize, h: Holds) -> usize {
+pub fn holds(rt: &impl Print, w: &[u8], at: usize, h: Holds) -> usize {
     match h {
-        Holds::Yes => phrase(w, at, YES),
-        Holds::No => phrase(w, at, NO),
-        Holds::Refused(x) => refusal(w, at, x),
+        Holds::Yes => phrase(rt, w, at, YES),
+        Holds::No => phrase(rt, w, at, NO),
+        Holds::Refused(x) => refusal(rt, w, at, x),
     }
 }
 
-pub fn measured(w: &[u8], at: usize, m: Measured) -> usize {
+pub fn measured(rt: &impl Print, w: &[u8], at: usize, m: Measured) -> usize {
     match m {
-        Measured::Places(n) => number(w, at, n as u64),
-        Measured::Refused(x) => refusal(w, at, x),
+        Measured::Places(n) => number(rt, w, at, n as u64),
+        Measured::Refused(x) => refusal(rt, w, at, x),
     }
 }
 
-pub fn compared(w: &[u8], at: usize, c: Compared) -> usize {
-    let count = number(w, at, c.count as u64);
+pub fn compared(rt: &impl Print, w: &[u8], at: usize, c: Compared) -> usize {
+    let count = number(rt, w, at, c.count as u64);
     let ending = c.ending;
     match ending {
-        Ending::Finished => phrase(w, count, FINISHED),
-        Ending::More(h) => wide_number(w, phrase(w, count, MORE_FROM), h.0),
-        Ending::Refused(x) => refusal(w, phrase(w, count, SPACE), x),
+        Ending::Finished => phrase(rt, w, count, FINISHED),
+        Ending::More(h) => wide_number(rt, w, phrase(rt, w, count, MORE_FROM), h.0),
+        Ending::Refused(x) => refusal(rt, w, phrase(rt, w, count, SPACE), x),
     }
 }
 
 // The header that a rule is needed at.
-pub fn needed(w: &[u8], at: usize, n: Needed) -> usize {
+pub fn needed(rt: &impl Print, w: &[u8], at: usize, n: Needed) -> usize {
     match n {
-        Needed::At(h) => wide_number(w, phrase(w, at, NEEDED), h.0),
-        Needed::Nowhere => phrase(w, at, NOWHERE),
-        Needed::Refused(x) => refusal(w, at, x),
+        Needed::At(h) => wide_number(rt, w, phrase(rt, w, at, NEEDED), h.0),
+        Needed::Nowhere => phrase(rt, w, at, NOWHERE),
+        Needed::Refused(x) => refusal(rt, w, at, x),
     }
 }
 
 // What stands between the parts of an answer, and not before the first.
-pub fn between(w: &[u8], at: usize, i: usize, k: usize) -> usize {
+pub fn between(rt: &impl Print, w: &[u8], at: usize, i: usize, k: usize) -> usize {
     match i {
         0 => at,
-        _ => phrase(w, at, k),
+        _ => phrase(rt, w, at, k),
     }
 }
 
@@ -222,11 +235,11 @@ fn item_at(care: &[u64], value: &[u64], decision: &[u16], i: usize) -> Rule {
     }
 }
 
-fn item(w: &[u8], at: usize, kind: usize, width: u32, r: Rule) -> usize {
+fn item(rt: &impl Print, w: &[u8], at: usize, kind: usize, width: u32, r: Rule) -> usize {
     match kind {
-        WORDS => wide_number(w, at, r.care),
-        SHORTS => number(w, at, r.decision as u64),
-        _ => rule(w, at, width, r),
+        WORDS => wide_number(rt, w, at, r.care),
+        SHORTS => number(rt, w, at, r.decision as u64),
+        _ => rule(rt, w, at, width, r),
     }
 }
 
@@ -241,20 +254,36 @@ fn alike(care: &[u64], value: &[u64], decision: &[u16], i: usize, count: usize) 
     while end < count && same_items(r, item_at(care, value, decision, end)) {
         end += 1;
     }
-    let n = std::num::wrapping_sub_usize(end, i);
+    let n = end.wrapping_sub(i);
     if n < 16 { 1 } else { n }
 }
 
 // An item that stands n times.
-fn times(w: &[u8], at: usize, n: usize, kind: usize, width: u32, r: Rule) -> usize {
+fn times(
+    rt: &impl Print,
+    w: &[u8],
+    at: usize,
+    n: usize,
+    kind: usize,
+    width: u32,
+    r: Rule,
+) -> usize {
     match n {
-        1 => item(w, at, kind, width, r),
-        _ => item(w, phrase(w, number(w, at, n as u64), TIMES), kind, width, r),
+        1 => item(rt, w, at, kind, width, r),
+        _ => item(
+            rt,
+            w,
+            phrase(rt, w, number(rt, w, at, n as u64), TIMES),
+            kind,
+            width,
+            r,
+        ),
     }
 }
 
 // The items in brackets.
 fn items(
+    rt: &impl Print,
     w: &[u8],
     from: usize,
     kind: usize,
@@ -269,47 +298,61 @@ fn items(
     } else {
         SPACE
     };
-    let mut at = phrase(w, from, OPEN);
-    let mut i = 0;
+    let mut at = phrase(rt, w, from, OPEN);
     let mut shown = 0;
-    while i < count {
+    for i in 0..count {
         if i == shown {
             let n = alike(care, value, decision, i, count);
-            at = between(w, at, i, separator);
-            at = times(w, at, n, kind, width, item_at(care, value, decision, i));
-            shown = std::num::wrapping_add_usize(i, n);
+            at = between(rt, w, at, i, separator);
+            at = times(rt, w, at, n, kind, width, item_at(care, value, decision, i));
+            shown = i.wrapping_add(n);
         }
-        i += 1;
     }
-    phrase(w, left_over(w, at, care), CLOSE)
+    phrase(rt, w, left_over(rt, w, at, care), CLOSE)
 }
 
 // A number that is left over after the words of a slice.
-fn left_over(w: &[u8], at: usize, s: &[u64]) -> usize {
+fn left_over(rt: &impl Print, w: &[u8], at: usize, s: &[u64]) -> usize {
     match s.len() % 2 {
         0 => at,
-        _ => named(w, between(w, at, s.len() / 2, SPACE), HALF, s[s.len() - 1]),
+        _ => named(
+            rt,
+            w,
+            between(rt, w, at, s.len() / 2, SPACE),
+            HALF,
+            s[s.len() - 1],
+        ),
     }
 }
 
 // The words of a slice, after a phrase.
-pub fn slice(w: &[u8], at: usize, k: usize, s: &[u64]) -> usize {
+pub fn slice(rt: &impl Print, w: &[u8], at: usize, k: usize, s: &[u64]) -> usize {
     let none = [0u16; 0];
-    items(w, phrase(w, at, k), WORDS, 0, s.len() / 2, s, s, &none)
+    items(
+        rt,
+        w,
+        phrase(rt, w, at, k),
+        WORDS,
+        0,
+        s.len() / 2,
+        s,
+        s,
+        &none,
+    )
 }
 
-pub fn shorts(w: &[u8], at: usize, s: &[u16]) -> usize {
+pub fn shorts(rt: &impl Print, w: &[u8], at: usize, s: &[u16]) -> usize {
     let none = [0u64; 0];
-    items(w, at, SHORTS, 0, s.len(), &none, &none, s)
+    items(rt, w, at, SHORTS, 0, s.len(), &none, &none, s)
 }
 
-pub fn bytes(w: &[u8], at: usize, s: &[u8]) -> usize {
+pub fn bytes(rt: &impl Print, w: &[u8], at: usize, s: &[u8]) -> usize {
     let wide = slices::of_bytes(s);
-    shorts(w, at, slices::first_of(&wide, s.len()))
+    shorts(rt, w, at, slices::first_of(&wide, s.len()))
 }
 
 // A rule that fits the width as its pattern, another by its two words, and its decision.
-pub fn rule(w: &[u8], at: usize, width: u32, r: Rule) -> usize {
+pub fn rule(rt: &impl Print, w: &[u8], at: usize, width: u32, r: Rule) -> usize {
     let care = r.care;
     let value = r.value;
     let undecided = Rule {
@@ -318,24 +361,30 @@ pub fn rule(w: &[u8], at: usize, width: u32, r: Rule) -> usize {
         decision: 0,
     };
     let said = match rules::check_rule(width, 1, 1, undecided) {
-        Verdict::Fine => pattern(w, at, width, r),
-        Verdict::Refused(_) => wide_number(w, phrase(w, wide_number(w, at, care), SLASH), value),
+        Verdict::Fine => pattern(rt, w, at, width, r),
+        Verdict::Refused(_) => wide_number(
+            rt,
+            w,
+            phrase(rt, w, wide_number(rt, w, at, care), SLASH),
+            value,
+        ),
     };
-    named(w, said, SPACE, r.decision as u64)
+    named(rt, w, said, SPACE, r.decision as u64)
 }
 
-fn pattern(w: &[u8], at: usize, width: u32, r: Rule) -> usize {
+fn pattern(rt: &impl Print, w: &[u8], at: usize, width: u32, r: Rule) -> usize {
     let mut places = [0u8; 128];
     let n = text::write_pattern(width, r, &mut places);
-    say(w, at, slices::bytes(&places, n))
+    say(rt, w, at, slices::bytes(&places, n))
 }
 
 // A list: its rules, or slice by slice where they differ in length.
-pub fn list(w: &[u8], at: usize, width: u32, l: List) -> usize {
+pub fn list(rt: &impl Print, w: &[u8], at: usize, width: u32, l: List) -> usize {
     let care = l.care;
     let value = l.value;
     let decision = l.decision;
     lent_list(
+        rt,
         w,
         at,
         width,
@@ -346,6 +395,7 @@ pub fn list(w: &[u8], at: usize, width: u32, l: List) -> usize {
 }
 
 fn lent_list(
+    rt: &impl Print,
     w: &[u8],
     at: usize,
     width: u32,
@@ -355,6 +405,7 @@ fn lent_list(
 ) -> usize {
     if care.len() == value.len() && care.len() == decision.len() * 2 {
         items(
+            rt,
             w,
             at,
             RULES_OF_A_LIST,
@@ -365,23 +416,24 @@ fn lent_list(
             decision,
         )
     } else {
-        three(w, at, CARE, care, value, decision)
+        three(rt, w, at, CARE, care, value, decision)
     }
 }
 
 // Three slices one by one, the first after phrase k.
-fn three(w: &[u8], at: usize, k: usize, a: &[u64], b: &[u64], c: &[u16]) -> usize {
-    let second = slice(w, slice(w, at, k, a), next(k), b);
-    shorts(w, phrase(w, second, next(next(k))), c)
+fn three(rt: &impl Print, w: &[u8], at: usize, k: usize, a: &[u64], b: &[u64], c: &[u16]) -> usize {
+    let second = slice(rt, w, slice(rt, w, at, k, a), next(k), b);
+    shorts(rt, w, phrase(rt, w, second, next(next(k))), c)
 }
 
 // The width of a swap and its entries; entries of 0 after the last other one are left out.
-pub fn swap(w: &[u8], at: usize, s: Swap) -> usize {
-    let width = named(w, at, SWAP, s.width as u64);
+pub fn swap(rt: &impl Print, w: &[u8], at: usize, s: Swap) -> usize {
+    let width = named(rt, w, at, SWAP, s.width as u64);
     let places = s.places;
     bytes(
+        rt,
         w,
-        phrase(w, width, SPACE),
+        phrase(rt, w, width, SPACE),
         slices::bytes(&places, last_entry(&places)),
     )
 }
@@ -394,38 +446,51 @@ fn last_entry(places: &[u8]) -> usize {
     left
 }
 
-fn run(w: &[u8], at: usize, first: Word, last: Word, old: u16, new: u16) -> usize {
-    let to = phrase(w, wide_number(w, at, first), SPACE);
-    let headers = phrase(w, wide_number(w, to, last), SPACE);
-    answer(w, phrase(w, answer(w, headers, old), SPACE), new)
+fn run(rt: &impl Print, w: &[u8], at: usize, first: Word, last: Word, old: u16, new: u16) -> usize {
+    let to = phrase(rt, w, wide_number(rt, w, at, first), SPACE);
+    let headers = phrase(rt, w, wide_number(rt, w, to, last), SPACE);
+    answer(
+        rt,
+        w,
+        phrase(rt, w, answer(rt, w, headers, old), SPACE),
+        new,
+    )
 }
 
-fn runs_of(w: &[u8], from: usize, first: &[u64], last: &[u64], old: &[u16], new: &[u16]) -> usize {
-    let mut at = phrase(w, from, OPEN);
-    let mut i = 0;
-    while i < old.len() {
+fn runs_of(
+    rt: &impl Print,
+    w: &[u8],
+    from: usize,
+    first: &[u64],
+    last: &[u64],
+    old: &[u16],
+    new: &[u16],
+) -> usize {
+    let mut at = phrase(rt, w, from, OPEN);
+    for i in 0..old.len() {
         at = run(
+            rt,
             w,
-            between(w, at, i, COMMA),
+            between(rt, w, at, i, COMMA),
             words::word_at(first, i),
             words::word_at(last, i),
             slices::short_at(old, i),
             slices::short_at(new, i),
         );
-        i += 1;
     }
-    phrase(w, at, CLOSE)
+    phrase(rt, w, at, CLOSE)
 }
 
 // What `into` holds after a comparison: runs, or the four slices one by one where they differ in length.
-pub fn runs(w: &[u8], at: usize, r: Runs) -> usize {
+pub fn runs(rt: &impl Print, w: &[u8], at: usize, r: Runs) -> usize {
     let first = r.first;
     let last = r.last;
     let old = r.old;
     let new = r.new;
     lent_runs(
+        rt,
         w,
-        phrase(w, at, INTO),
+        phrase(rt, w, at, INTO),
         slices::numbers(&first, r.firsts),
         slices::numbers(&last, r.lasts),
         slices::shorts(&old, r.olds),
@@ -433,13 +498,22 @@ pub fn runs(w: &[u8], at: usize, r: Runs) -> usize {
     )
 }
 
-fn lent_runs(w: &[u8], at: usize, first: &[u64], last: &[u64], old: &[u16], new: &[u16]) -> usize {
+fn lent_runs(
+    rt: &impl Print,
+    w: &[u8],
+    at: usize,
+    first: &[u64],
+    last: &[u64],
+    old: &[u16],
+    new: &[u16],
+) -> usize {
     if first.len() == last.len() && first.len() == old.len() * 2 && old.len() == new.len() {
-        runs_of(w, at, first, last, old, new)
+        runs_of(rt, w, at, first, last, old, new)
     } else {
         shorts(
+            rt,
             w,
-            phrase(w, three(w, at, FIRST, first, last, old), NEW),
+            phrase(rt, w, three(rt, w, at, FIRST, first, last, old), NEW),
             new,
         )
     }

@@ -69,11 +69,9 @@ pub fn put_byte(s: &mut [u8], i: usize, x: u8) {
 pub fn words_of(numbers: &[u64], from: usize, step: usize, count: usize) -> [u64; 8224] {
     let mut out = [0u64; 8224];
     let mut at = from;
-    let mut i = 0;
-    while i < count {
+    for i in 0..count {
         words::put_word(&mut out, i, words::word_at(numbers, at));
-        at = std::num::wrapping_add_usize(at, step);
-        i += 1;
+        at = at.wrapping_add(step);
     }
     out
 }
@@ -82,11 +80,9 @@ pub fn words_of(numbers: &[u64], from: usize, step: usize, count: usize) -> [u64
 pub fn shorts_of(numbers: &[u64], from: usize, step: usize, count: usize) -> [u16; 4112] {
     let mut out = [0u16; 4112];
     let mut at = from;
-    let mut i = 0;
-    while i < count && i < 4112 {
+    for i in 0..count.min(4112) {
         out[i] = (words::capped(words::word_at(numbers, at)) % 65536) as u16;
-        at = std::num::wrapping_add_usize(at, step);
-        i += 1;
+        at = at.wrapping_add(step);
     }
     out
 }
@@ -95,31 +91,25 @@ pub fn shorts_of(numbers: &[u64], from: usize, step: usize, count: usize) -> [u1
 pub fn fields_of(numbers: &[u64], from: usize, step: usize, count: usize) -> [u32; 4112] {
     let mut out = [0u32; 4112];
     let mut at = from;
-    let mut i = 0;
-    while i < count && i < 4112 {
+    for i in 0..count.min(4112) {
         out[i] = (words::capped(words::word_at(numbers, at)) % 4294967296) as u32;
-        at = std::num::wrapping_add_usize(at, step);
-        i += 1;
+        at = at.wrapping_add(step);
     }
     out
 }
 
 // The lowest byte of each of the first `count` words.
 pub fn to_bytes(from: &[u64], count: usize, to: &mut [u8]) {
-    let mut i = 0;
-    while i < count {
+    for i in 0..count {
         let x = words::word_at(from, i);
         put_byte(to, i, (x.low % 256) as u8);
-        i += 1;
     }
 }
 
 pub fn of_bytes(from: &[u8]) -> [u16; 65600] {
     let mut out = [0u16; 65600];
-    let mut i = 0;
-    while i < from.len() && i < 65600 {
+    for i in 0..from.len().min(65600) {
         out[i] = byte(from, i) as u16;
-        i += 1;
     }
     out
 }

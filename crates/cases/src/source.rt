@@ -75,10 +75,8 @@ pub fn part(s: &[u8], from: usize, end: usize) -> &[u8] {
 // The phrase with this number in a text, where a | stands between two.
 pub fn phrase_of(s: &[u8], k: usize) -> &[u8] {
     let mut from = 0;
-    let mut left = k;
-    while left > 0 {
+    for _ in 0..k {
         from = next(byte_from(s, from, s.len(), 124));
-        left -= 1;
     }
     part(s, from, byte_from(s, from, s.len(), 124))
 }
@@ -112,7 +110,7 @@ pub fn answer_at(s: &[u8], from: usize, to: usize) -> usize {
 }
 
 // A number, and the position after it.
-#[derive(Drop)]
+#[derive(Clone, Copy)]
 pub struct Taken {
     pub value: u64,
     pub at: usize,
@@ -128,7 +126,7 @@ fn meant(word: &[u8]) -> Number {
 }
 
 // A number that a word holds, and the position after it.
-#[derive(Drop)]
+#[derive(Clone, Copy)]
 pub struct Given {
     pub word: Word,
     pub at: usize,

@@ -2,11 +2,12 @@
 use crate::source::{answer_at, header, named};
 use crate::{given, names, show};
 use rules::{Looked, Wire};
+use std::io::Print;
 use swaps::{MovedRule, Swap, SwapAnswer, ToSwapped, ToWire};
 use words::Word;
 
 // A swap, and the position after it.
-#[derive(Drop)]
+#[derive(Clone, Copy)]
 struct Given {
     swap: Swap,
     at: usize,
@@ -29,28 +30,26 @@ fn swap_in(s: &[u8], from: usize) -> Given {
 // The swap of 128 places that leaves each where it is.
 fn still() -> Swap {
     let mut places = [0u8; 128];
-    let mut left: usize = 128;
-    while left > 0 {
-        places[left - 1] = left as u8;
-        left -= 1;
+    for place in 0..128 {
+        places[place] = (place + 1) as u8;
     }
     Swap { places, width: 128 }
 }
 
 // A header moved by one swap and moved back by another.
-fn moved(w: &[u8], to: usize, there: Swap, back: Swap, header: Word) -> usize {
+fn moved(rt: &impl Print, w: &[u8], to: usize, there: Swap, back: Swap, header: Word) -> usize {
     match there.apply(Wire(header)) {
         ToSwapped::Header(x) => match back.undo(x) {
-            ToWire::Header(y) => show::wide_number(w, to, y.0),
-            ToWire::Refused(y) => show::refusal(w, to, y),
+            ToWire::Header(y) => show::wide_number(rt, w, to, y.0),
+            ToWire::Refused(y) => show::refusal(rt, w, to, y),
         },
-        ToSwapped::Refused(x) => show::refusal(w, to, x),
+        ToSwapped::Refused(x) => show::refusal(rt, w, to, x),
     }
 }
 
-pub fn show_swap(w: &[u8], to: usize, a: SwapAnswer) -> usize {
+pub fn show_swap(rt: &impl Print, w: &[u8], to: usize, a: SwapAnswer) -> usize {
     let v = a.verdict;
-    show::swap(w, show::verdict(w, to, v), a.swap)
+    show::swap(rt, w, show::verdict(rt, w, to, v), a.swap)
 }
 
 // What the list answers to the swapped header with this number.
@@ -62,36 +61,49 @@ pub fn looked(width: u32, care: &[u64], value: &[u64], decision: &[u16], header:
 }
 
 // The calls on a swap: each has an argument `swap`, and most of them another one.
-pub fn on_swap(call: usize, s: &[u8], from: usize, w: &[u8], to: usize) -> usize {
+pub fn on_swap(rt: &impl Print, call: usize, s: &[u8], from: usize, w: &[u8], to: usize) -> usize {
     let g = swap_in(s, from);
     let swap = g.swap;
     match call {
-        names::INVERT => show_swap(w, answer_at(s, g.at, to), swap.invert()),
+        names::INVERT => show_swap(rt, w, answer_at(s, g.at, to), swap.invert()),
         names::COMPOSE => {
             let second = swap_in(s, g.at);
-            show_swap(w, answer_at(s, second.at, to), swap.compose(second.swap))
+            show_swap(
+                rt,
+                w,
+                answer_at(s, second.at, to),
+                swap.compose(second.swap),
+            )
         }
-        names::APPLY_RULE => apply_rule(swap, s, g.at, w, to),
-        _ => on_header(call, swap, s, g.at, w, to),
+        names::APPLY_RULE => apply_rule(rt, swap, s, g.at, w, to),
+        _ => on_header(rt, call, swap, s, g.at, w, to),
     }
 }
 
 // A swapped header is shown as the wire header that the swap which moves nothing gives back for it, and any number is made a swapped
 // header by that swap.
-fn on_header(call: usize, swap: Swap, s: &[u8], from: usize, w: &[u8], to: usize) -> usize {
+fn on_header(
+    rt: &impl Print,
+    call: usize,
+    swap: Swap,
+    s: &[u8],
+    from: usize,
+    w: &[u8],
+    to: usize,
+) -> usize {
     let h = header(s, from, names::HEADER);
     let at = answer_at(s, h.at, to);
     match call {
-        names::APPLY => moved(w, at, swap, still(), h.word),
-        _ => moved(w, at, still(), swap, h.word),
+        names::APPLY => moved(rt, w, at, swap, still(), h.word),
+        _ => moved(rt, w, at, still(), swap, h.word),
     }
 }
 
-fn apply_rule(swap: Swap, s: &[u8], from: usize, w: &[u8], to: usize) -> usize {
+fn apply_rule(rt: &impl Print, swap: Swap, s: &[u8], from: usize, w: &[u8], to: usize) -> usize {
     let r = given::one_rule(s, from, names::RULE);
     let at = answer_at(s, r.at, to);
     match swap.apply_rule(r.rule) {
-        MovedRule::Moved(moved) => show::rule(w, at, swap.width, moved),
-        MovedRule::Refused(x) => show::refusal(w, at, x),
+        MovedRule::Moved(moved) => show::rule(rt, w, at, swap.width, moved),
+        MovedRule::Refused(x) => show::refusal(rt, w, at, x),
     }
 }

@@ -2,32 +2,34 @@
 use crate::source::answer_at;
 use crate::{given, names, show, slices};
 use pruning::Pruned;
+use std::io::Print;
 use weaving::{Counted, Woven};
 
-fn show_kept(w: &[u8], to: usize, kept: usize, dropped: usize) -> usize {
-    let at = show::named(w, to, show::KEPT, kept as u64);
-    show::named(w, at, show::DROPPED, dropped as u64)
+fn show_kept(rt: &impl Print, w: &[u8], to: usize, kept: usize, dropped: usize) -> usize {
+    let at = show::named(rt, w, to, show::KEPT, kept as u64);
+    show::named(rt, w, at, show::DROPPED, dropped as u64)
 }
 
-pub fn show_woven(w: &[u8], to: usize, woven: Woven) -> usize {
+pub fn show_woven(rt: &impl Print, w: &[u8], to: usize, woven: Woven) -> usize {
     match woven {
         Woven::Done(t) => {
-            let at = show_kept(w, to, t.kept, t.dropped);
-            show::named(w, at, show::MERGED, t.merged as u64)
+            let at = show_kept(rt, w, to, t.kept, t.dropped);
+            show::named(rt, w, at, show::MERGED, t.merged as u64)
         }
-        Woven::Refused(x) => show::refusal(w, to, x),
+        Woven::Refused(x) => show::refusal(rt, w, to, x),
     }
 }
 
-fn show_pruned(w: &[u8], to: usize, pruned: Pruned) -> usize {
+fn show_pruned(rt: &impl Print, w: &[u8], to: usize, pruned: Pruned) -> usize {
     match pruned {
-        Pruned::Done(t) => show_kept(w, to, t.kept, t.dropped),
-        Pruned::Refused(x) => show::refusal(w, to, x),
+        Pruned::Done(t) => show_kept(rt, w, to, t.kept, t.dropped),
+        Pruned::Refused(x) => show::refusal(rt, w, to, x),
     }
 }
 
 // `into`: the slice that takes the sizes. `from` is the position after the list.
 pub fn cut(
+    rt: &impl Print,
     s: &[u8],
     from: usize,
     width: u32,
@@ -48,18 +50,20 @@ pub fn cut(
     );
     let at = answer_at(s, f.at, to);
     let answer = match c {
-        Counted::Runs(n) => show::number(w, at, n as u64),
-        Counted::Refused(x) => show::refusal(w, at, x),
+        Counted::Runs(n) => show::number(rt, w, at, n as u64),
+        Counted::Refused(x) => show::refusal(rt, w, at, x),
     };
     show::shorts(
+        rt,
         w,
-        show::phrase(w, answer, show::INTO),
+        show::phrase(rt, w, answer, show::INTO),
         slices::shorts(&sizes, f.count),
     )
 }
 
 // `into`: the list that takes the woven rules.
 pub fn weave(
+    rt: &impl Print,
     s: &[u8],
     at: usize,
     width: u32,
@@ -85,12 +89,13 @@ pub fn weave(
     l.care = to_care;
     l.value = to_value;
     l.decision = to_decision;
-    let answer = show_woven(w, answer_at(s, l.at, to), woven);
-    show::list(w, show::phrase(w, answer, show::INTO), width, l)
+    let answer = show_woven(rt, w, answer_at(s, l.at, to), woven);
+    show::list(rt, w, show::phrase(rt, w, answer, show::INTO), width, l)
 }
 
 // `into` and `headers`: the list that takes the rules that are kept, and the slice that takes a header for each.
 pub fn prune(
+    rt: &impl Print,
     s: &[u8],
     at: usize,
     width: u32,
@@ -119,7 +124,13 @@ pub fn prune(
     l.care = to_care;
     l.value = to_value;
     l.decision = to_decision;
-    let answer = show_pruned(w, answer_at(s, h.at, to), pruned);
-    let list = show::list(w, show::phrase(w, answer, show::INTO), width, l);
-    show::slice(w, list, show::HEADERS, slices::numbers(&headers, h.count))
+    let answer = show_pruned(rt, w, answer_at(s, h.at, to), pruned);
+    let list = show::list(rt, w, show::phrase(rt, w, answer, show::INTO), width, l);
+    show::slice(
+        rt,
+        w,
+        list,
+        show::HEADERS,
+        slices::numbers(&headers, h.count),
+    )
 }

@@ -1,6 +1,5 @@
 // Comparing and writing the lines, with room for 1,000 runs.
-ghost use Rattle.io.specs.Counts.{IsPrefixLen};
-ghost use Rattle.std.specs.Prelude.{◌≡◌};
+ghost use Rattle.std.specs.Prelude.{◌≡◌, ◌≤◌, length};
 ghost use Rattle.words.specs.Halves.{num};
 ghost use Rattle.run_lines.specs.Shown.{FirstShown, ListsShown, FilesShown};
 
@@ -8,6 +7,8 @@ use crate::{FilesCompared, lines};
 use compare::{Compared, Ending};
 use compare_check::Default;
 use rules::Wire;
+use std::io::Print;
+use std::rt::Files;
 
 // Room for so many runs.
 const ROOM: usize = 1000;
@@ -17,6 +18,7 @@ const NUMBERS: usize = 2000;
 
 // The lines of a comparison; what they say.
 fn show(
+    rt: &impl Print,
     old: &[u8],
     first: &[u64],
     last: &[u64],
@@ -30,14 +32,15 @@ fn show(
     if let Ending::Refused(_) = ending {
         return c;
     }
-    lines::width(old);
-    let count = lines::runs(first, last, old_answer, new_answer, c.count);
-    let end = lines::ended(ending, count);
+    lines::width(rt, old);
+    let count = lines::runs(rt, first, last, old_answer, new_answer, c.count);
+    let end = lines::ended(rt, ending, count);
     Compared { count, ending: end }
 }
 
 // The lines of the comparison of the first lists of two images, each with its default, from a header on.
 pub fn show_first(
+    rt: &impl Print,
     old: &[u8],
     old_default: Default,
     new: &[u8],
@@ -61,12 +64,13 @@ pub fn show_first(
         &mut old_answer,
         &mut new_answer,
     );
-    show(old, &first, &last, &old_answer, &new_answer, c)
+    show(rt, old, &first, &last, &old_answer, &new_answer, c)
 }
 
 // The lines of the comparison of the old image's list `old_id` with the new image's list `new_id`, each with its default, from a header
 // on.
 pub fn show_lists(
+    rt: &impl Print,
     old: &[u8],
     old_id: u16,
     old_default: Default,
@@ -94,30 +98,34 @@ pub fn show_lists(
         &mut old_answer,
         &mut new_answer,
     );
-    show(old, &first, &last, &old_answer, &new_answer, c)
+    show(rt, old, &first, &last, &old_answer, &new_answer, c)
 }
 
 // Reads a file into the start of the slice, and answers how many bytes there are. A file that cannot be opened has none.
-fn load(path: &[u8], bytes: &mut [u8]) -> usize
-    ensures { IsPrefixLen result bytes.new }
+fn load(rt: &impl Files, path: &[u8], bytes: &mut [u8]) -> usize
+    ensures { result ≤ length bytes.new }
 {
-    let file = os::open_read(path);
-    if file < 0 {
-        return io::count(-1, bytes);
+    match host::open(rt, path) {
+        Some(mut file) => host::read_full(&mut file, bytes),
+        None => 0,
     }
-    let n = io::read_full(file, bytes);
-    libc::close(file);
-    n
 }
 
 // The lines of the comparison of the first lists of two files, without defaults. The files are read into the two slices. A slice needs
 // room for a byte more than the largest image: then a larger file is seen to be too large.
-pub fn show_files(old_path: &[u8], new_path: &[u8], old: &mut [u8], new: &mut [u8]) -> FilesCompared
+pub fn show_files(
+    rt: &(impl Files + Print),
+    old_path: &[u8],
+    new_path: &[u8],
+    old: &mut [u8],
+    new: &mut [u8],
+) -> FilesCompared
     ensures { FilesShown old.new new.new result }
 {
-    let m = load(old_path, old);
-    let n = load(new_path, new);
+    let m = load(rt, old_path, old);
+    let n = load(rt, new_path, new);
     let compared = show_first(
+        rt,
         &old[..m],
         Default::Absent,
         &new[..n],

@@ -4,35 +4,48 @@ use crate::files::Held;
 use crate::{files, lines, lists, slices};
 use command_line::Command;
 use compare::{Compared, Ending};
+use std::io::Print;
+use std::rt::{Env, Files};
 
 // The new image is the file that word 3 after place `at` names.
-pub(crate) fn on_new_file(at: usize, old: &[u8], request: Request) {
+pub(crate) fn on_new_file(
+    rt: &(impl Env + Files + Print),
+    at: usize,
+    old: &[u8],
+    request: Request,
+) {
     let mut space = files::space();
-    let held = files::load_word(at, 3, &mut space);
+    let held = files::load_word(rt, at, 3, &mut space);
     if let Held::Bytes(n) = held {
-        compare(old, slices::bytes(&space, n), request);
+        compare(rt, old, slices::bytes(&space, n), request);
     }
 }
 
 // The lists with the id that was named, or the first lists where none was.
-fn compare(old: &[u8], new: &[u8], request: Request) {
+fn compare(rt: &impl Print, old: &[u8], new: &[u8], request: Request) {
     let command = request.command;
     let a = request.old_default;
     let b = request.new_default;
     if let Command::Compare = command {
-        refused(run_lines::show_first(old, a, new, b, request.header));
-    } else if lists::has(old, request.id, b" in the old image\n") {
-        if lists::has(new, request.id, b" in the new image\n") {
+        refused(
+            rt,
+            run_lines::show_first(rt, old, a, new, b, request.header),
+        );
+    } else if lists::has(rt, old, request.id, b" in the old image\n") {
+        if lists::has(rt, new, request.id, b" in the new image\n") {
             let id = lists::short(request.id);
-            refused(run_lines::show_lists(old, id, a, new, id, b, request.header));
+            refused(
+                rt,
+                run_lines::show_lists(rt, old, id, a, new, id, b, request.header),
+            );
         }
     }
 }
 
 // Says why there are no lines, where there are none.
-fn refused(c: Compared) {
+fn refused(rt: &impl Print, c: Compared) {
     let ending = c.ending;
     if let Ending::Refused(x) = ending {
-        lines::refusal(x);
+        lines::refusal(rt, x);
     }
 }

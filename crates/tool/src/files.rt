@@ -2,9 +2,12 @@
 ghost use Rattle.std.specs.Prelude.{◌≡◌, length};
 
 use crate::{lines, places, slices};
+use std::fs::OpenFile;
+use std::io::{Print, Read, Write};
+use std::rt::{Env, Files};
 
 // How many bytes a file had, or that it could not be read and a line has said so.
-#[derive(Drop)]
+#[derive(Clone, Copy)]
 pub(crate) enum Held {
     Bytes(usize),
     Nothing,
@@ -18,22 +21,19 @@ pub(crate) fn space() -> [u8; 65537]
 }
 
 // Closes an open file after one more read; whether that read failed. A directory can be opened, and only this tells it from an empty file.
-fn fails(file: i32) -> bool {
+fn fails(mut file: impl Read + Drop) -> bool {
     let mut one = [0u8; 1];
-    let got = libc::read(file, &mut one);
-    libc::close(file);
-    got < 0
+    file.read(&mut one).is_err()
 }
 
-fn load(path: &[u8], buffer: &mut [u8]) -> Held {
-    let file = os::open_read(path);
-    if file < 0 {
-        lines::trouble(b"cannot open ", path);
+fn load(rt: &(impl Files + Print), path: &[u8], buffer: &mut [u8]) -> Held {
+    let Some(mut file) = host::open(rt, path) else {
+        lines::trouble(rt, b"cannot open ", path);
         return Held::Nothing;
-    }
-    let n = io::read_full(file, buffer);
+    };
+    let n = host::read_full(&mut file, buffer);
     if fails(file) {
-        lines::trouble(b"cannot read ", path);
+        lines::trouble(rt, b"cannot read ", path);
         Held::Nothing
     } else {
         Held::Bytes(n)
@@ -41,41 +41,42 @@ fn load(path: &[u8], buffer: &mut [u8]) -> Held {
 }
 
 // Reads the file that word i after place `at` names into the start of the buffer.
-pub(crate) fn load_word(at: usize, i: usize, buffer: &mut [u8]) -> Held {
-    let mut path = io::buffer();
-    let n = os::arg(places::place(at, i), &mut path);
-    load(&path[..n], buffer)
+pub(crate) fn load_word(
+    rt: &(impl Env + Files + Print),
+    at: usize,
+    i: usize,
+    buffer: &mut [u8],
+) -> Held {
+    let mut path = [0u8; host::NAME_ROOM];
+    let n = host::word(rt, places::place(at, i), &mut path);
+    load(rt, &path[..n], buffer)
 }
 
-// Writes the bytes to an open file, waits until they have reached its device, and closes it; whether all of that was done.
-fn filled(file: i32, bytes: &[u8]) -> bool {
-    let all = io::write_all(file, bytes);
-    let reached = libc::fsync(file);
-    let closed = libc::close(file);
-    all && reached >= 0 && closed >= 0
+// Writes the bytes to an open file, waits until they have reached its device, and closes it; whether they have.
+fn filled(mut file: impl Write + OpenFile + Drop, bytes: &[u8]) -> bool {
+    file.write_all(bytes).is_ok() && file.sync_all().is_ok()
 }
 
 // Says that a file cannot be written, and answers that it was not.
-fn unwritten(name: &[u8]) -> bool {
-    lines::trouble(b"cannot write ", name);
+fn unwritten(rt: &impl Print, name: &[u8]) -> bool {
+    lines::trouble(rt, b"cannot write ", name);
     false
 }
 
 // Writes the bytes to the new file `part` and, once it is complete, renames it to what the first n bytes of that name are. Where that
 // cannot be done, `part` is removed, a line says so, and the file that it was to become is as it was.
-fn save(part: &[u8], n: usize, bytes: &[u8]) -> bool {
+fn save(rt: &(impl Files + Print), part: &[u8], n: usize, bytes: &[u8]) -> bool {
     let out = slices::bytes(part, n);
-    let file = os::create(part);
-    if file < 0 {
-        return unwritten(part);
-    }
+    let Some(file) = host::create(rt, part) else {
+        return unwritten(rt, part);
+    };
     if filled(file, bytes) {
-        if os::rename(part, out) == 0 {
+        if host::rename(rt, part, out) {
             return true;
         }
     }
-    os::unlink(part);
-    unwritten(out)
+    host::remove(rt, part);
+    unwritten(rt, out)
 }
 
 // Puts ".part" after the first n bytes of a name, and answers its length; 0 where the name is empty or there is no room for it.
@@ -83,7 +84,7 @@ fn add_part(name: &mut [u8], n: usize) -> usize {
     if 0 < n {
         if n <= 4000 {
             if n + 5 <= name.len() {
-                bytes::copy(b".part", &mut name[n..]);
+                name[n..n + 5].copy_from_slice(b".part");
                 return n + 5;
             }
         }
@@ -93,13 +94,18 @@ fn add_part(name: &mut [u8], n: usize) -> usize {
 
 // Writes the bytes as the file that word i after place `at` names, whole or not at all; whether that was done. A name that is empty or too
 // long to have another beside it is no name to write to.
-pub(crate) fn save_word(at: usize, i: usize, bytes: &[u8]) -> bool {
-    let mut name = io::buffer();
-    let n = os::arg(places::place(at, i), &mut name);
+pub(crate) fn save_word(
+    rt: &(impl Env + Files + Print),
+    at: usize,
+    i: usize,
+    bytes: &[u8],
+) -> bool {
+    let mut name = [0u8; host::NAME_ROOM];
+    let n = host::word(rt, places::place(at, i), &mut name);
     let m = add_part(&mut name, n);
     if m > 0 {
-        save(slices::bytes(&name, m), n, bytes)
+        save(rt, slices::bytes(&name, m), n, bytes)
     } else {
-        unwritten(slices::bytes(&name, n))
+        unwritten(rt, slices::bytes(&name, n))
     }
 }

@@ -3,22 +3,24 @@ use crate::commands::Request;
 use crate::files::Held;
 use crate::{comparing, files, lists, questions, slices, squeezing};
 use command_line::Command;
+use std::io::Print;
+use std::rt::{Env, Files};
 
 // The image is the file that word 2 after place `at` names.
-pub(crate) fn on_file(at: usize, request: Request) {
+pub(crate) fn on_file(rt: &(impl Env + Files + Print), at: usize, request: Request) {
     let mut space = files::space();
-    let held = files::load_word(at, 2, &mut space);
+    let held = files::load_word(rt, at, 2, &mut space);
     if let Held::Bytes(n) = held {
-        on_image(at, slices::bytes(&space, n), request);
+        on_image(rt, at, slices::bytes(&space, n), request);
     }
 }
 
-fn on_image(at: usize, image: &[u8], request: Request) {
+fn on_image(rt: &(impl Env + Files + Print), at: usize, image: &[u8], request: Request) {
     let command = request.command;
     match command {
-        Command::Check | Command::Show => lists::tell(image, request),
-        Command::Lookup | Command::Runs => questions::ask_by_id(image, request),
-        Command::Weave | Command::Prune => squeezing::squeeze(at, image, request),
-        _ => comparing::on_new_file(at, image, request),
+        Command::Check | Command::Show => lists::tell(rt, image, request),
+        Command::Lookup | Command::Runs => questions::ask_by_id(rt, image, request),
+        Command::Weave | Command::Prune => squeezing::squeeze(rt, at, image, request),
+        _ => comparing::on_new_file(rt, at, image, request),
     }
 }

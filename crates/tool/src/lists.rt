@@ -4,6 +4,7 @@ use crate::{lines, questions, squeezing};
 use command_line::Command;
 use image::Listed;
 use rules::Verdict;
+use std::io::Print;
 use words::Word;
 
 // An id as lists have it, of a list that is there.
@@ -24,56 +25,54 @@ fn sought(image: &[u8], id: Word) -> Verdict {
 }
 
 // Whether an image has a list with that id; where it has none, a line says why, with its own end where that is 15.
-pub(crate) fn has(image: &[u8], id: Word, end: &[u8]) -> bool {
+pub(crate) fn has(rt: &impl Print, image: &[u8], id: Word, end: &[u8]) -> bool {
     let v = sought(image, id);
     if let Verdict::Refused(x) = v {
-        lines::refusal_of(x, id, end);
+        lines::refusal_of(rt, x, id, end);
         return false;
     }
     true
 }
 
 // check FILE and show FILE
-pub(crate) fn tell(image: &[u8], request: Request) {
+pub(crate) fn tell(rt: &impl Print, image: &[u8], request: Request) {
     let v = image::check(image);
     match v {
         Verdict::Fine => {
             let command = request.command;
             if let Command::Check = command {
-                lines::named(b"accepted\nformat ", image_form::byte_at(image, 0));
-                lines::named(b"width ", image_form::byte_at(image, 1));
+                lines::named(rt, b"accepted\nformat ", image_form::byte_at(image, 0));
+                lines::named(rt, b"width ", image_form::byte_at(image, 1));
             }
-            each(image, request);
+            each(rt, image, request);
         }
-        Verdict::Refused(x) => lines::refusal(x),
+        Verdict::Refused(x) => lines::refusal(rt, x),
     }
 }
 
 // Says of one list after the other what the command asks for. An image has at most 16.
-pub(crate) fn each(image: &[u8], request: Request) {
-    let mut left: usize = 16;
-    while left > 0 {
-        say_entry(image, 17 - left, request);
-        left -= 1;
+pub(crate) fn each(rt: &impl Print, image: &[u8], request: Request) {
+    for k in 1..17 {
+        say_entry(rt, image, k, request);
     }
 }
 
 // How many rules a list has, what weaving or pruning makes of it, or its rules.
-fn say_entry(image: &[u8], k: usize, request: Request) {
+fn say_entry(rt: &impl Print, image: &[u8], k: usize, request: Request) {
     let e = image::entry(image, k);
     if let Listed::List { id, rules } = e {
         let command = request.command;
-        lines::list(id);
+        lines::list(rt, id);
         match command {
-            Command::Check => lines::named(b" rules ", rules),
-            Command::Weave => squeezing::report(image, id, rules),
+            Command::Check => lines::named(rt, b" rules ", rules),
+            Command::Weave => squeezing::report(rt, image, id, rules),
             Command::Prune => {
-                squeezing::begin(rules);
-                questions::ask(image, id, request);
+                squeezing::begin(rt, rules);
+                questions::ask(rt, image, id, request);
             }
             _ => {
-                lines::byte(b'\n');
-                questions::ask(image, id, request);
+                lines::byte(rt, b'\n');
+                questions::ask(rt, image, id, request);
             }
         }
     }

@@ -1,5 +1,7 @@
 // The tool for people who hold an image file in their hands: a thin command line over the libraries. What it writes goes to
 // standard output, in plain words.
+#![tactic(auto)]
+
 mod commands;
 mod comparing;
 mod fields;
@@ -14,10 +16,10 @@ mod slices;
 mod squeezing;
 mod trial;
 
-fn main() {
-    if places::is_word(1, b"trial") {
-        trial::all();
+fn main(rt: HostRuntime) {
+    if places::is_word(&rt, 1, b"trial") {
+        trial::all(&rt);
     } else {
-        commands::run(0, os::arg_count());
+        commands::run(&rt, 0, host::word_count(&rt));
     }
 }

@@ -1,4 +1,5 @@
 // Where the words of a command line stand.
+use std::rt::Env;
 
 // The place of word i after place `at` among the program's arguments; no argument has the place that stands for too many.
 pub(crate) fn place(at: usize, i: usize) -> usize {
@@ -19,8 +20,8 @@ pub(crate) fn last_but_two(at: usize, words: usize) -> usize {
 }
 
 // Whether the argument at a place is this word.
-pub(crate) fn is_word(place: usize, word: &[u8]) -> bool {
-    let mut space = io::buffer();
-    let n = os::arg(place, &mut space);
+pub(crate) fn is_word(rt: &impl Env, place: usize, word: &[u8]) -> bool {
+    let mut space = [0u8; host::NAME_ROOM];
+    let n = host::word(rt, place, &mut space);
     check::same(&space[..n], word)
 }

@@ -4,120 +4,126 @@ use crate::{lines, lists, slices, squeezing};
 use command_line::Command;
 use image::NumberAnswer;
 use rules::{Hit, Looked, Refusal, Verdict};
+use std::io::Print;
 use swaps::Swap;
 use weaving::Counted;
 
 // The list with the id that was named, where it is there.
-pub(crate) fn ask_by_id(image: &[u8], request: Request) {
-    if lists::has(image, request.id, b"\n") {
-        ask(image, lists::short(request.id), request);
+pub(crate) fn ask_by_id(rt: &impl Print, image: &[u8], request: Request) {
+    if lists::has(rt, image, request.id, b"\n") {
+        ask(rt, image, lists::short(request.id), request);
     }
 }
 
 // Reads the list with that id out of the image, and answers.
-pub(crate) fn ask(image: &[u8], id: u16, request: Request) {
+pub(crate) fn ask(rt: &impl Print, image: &[u8], id: u16, request: Request) {
     let mut care = [0u64; 2048];
     let mut value = [0u64; 2048];
     let mut decision = [0u16; 1024];
     let o = image::read(image, id, &mut care, &mut value, &mut decision);
     match o {
         NumberAnswer::Number(n) => answered(
+            rt,
             image,
             slices::words(&care, n),
             slices::words(&value, n),
             slices::shorts(&decision, n),
             request,
         ),
-        NumberAnswer::Refused(x) => lines::refusal(x),
+        NumberAnswer::Refused(x) => lines::refusal(rt, x),
     }
 }
 
-fn answered(image: &[u8], care: &[u64], value: &[u64], decision: &[u16], request: Request) {
+fn answered(
+    rt: &impl Print,
+    image: &[u8],
+    care: &[u64],
+    value: &[u64],
+    decision: &[u16],
+    request: Request,
+) {
     let width = image_form::byte_at(image, 1) as u32;
     let command = request.command;
     match command {
-        Command::Lookup => answer(rules::lookup(width, care, value, decision, request.header)),
-        Command::Runs => runs(width, care, value, decision),
-        Command::Prune => squeezing::prune(width, care, value, decision),
-        _ => show_rules(width, care, value, decision),
+        Command::Lookup => answer(
+            rt,
+            rules::lookup(width, care, value, decision, request.header),
+        ),
+        Command::Runs => runs(rt, width, care, value, decision),
+        Command::Prune => squeezing::prune(rt, width, care, value, decision),
+        _ => show_rules(rt, width, care, value, decision),
     }
 }
 
-fn show_rules(width: u32, care: &[u64], value: &[u64], decision: &[u16]) {
-    let mut i = 0;
-    while i < decision.len() {
-        lines::rule(width, rules::rule_at(care, value, decision, i));
-        lines::byte(b'\n');
-        i += 1;
+fn show_rules(rt: &impl Print, width: u32, care: &[u64], value: &[u64], decision: &[u16]) {
+    for i in 0..decision.len() {
+        lines::rule(rt, width, rules::rule_at(care, value, decision, i));
+        lines::byte(rt, b'\n');
     }
 }
 
-fn answer(l: Looked) {
+fn answer(rt: &impl Print, l: Looked) {
     match l {
-        Looked::Hit(x) => show_hit(x),
-        Looked::Miss => lines::say(b"none\n"),
-        Looked::Refused(x) => lines::refusal(x),
+        Looked::Hit(x) => show_hit(rt, x),
+        Looked::Miss => lines::say(rt, b"none\n"),
+        Looked::Refused(x) => lines::refusal(rt, x),
     }
 }
 
 // The decision of the rule that is hit, and its number in the list.
-fn show_hit(hit: Hit) {
-    lines::number(hit.decision as usize);
-    lines::named(b" rule ", hit.number);
+fn show_hit(rt: &impl Print, hit: Hit) {
+    lines::number(rt, hit.decision as usize);
+    lines::named(rt, b" rule ", hit.number);
 }
 
-fn runs(width: u32, care: &[u64], value: &[u64], decision: &[u16]) {
+fn runs(rt: &impl Print, width: u32, care: &[u64], value: &[u64], decision: &[u16]) {
     let mut sizes = [0u16; 1024];
     let c = weaving::runs(width, care, value, decision, &mut sizes);
     match c {
         Counted::Runs(n) => {
-            show_sizes(slices::shorts(&sizes, n));
-            show_order(width, care, value, decision);
+            show_sizes(rt, slices::shorts(&sizes, n));
+            show_order(rt, width, care, value, decision);
         }
-        Counted::Refused(x) => lines::refusal(x),
+        Counted::Refused(x) => lines::refusal(rt, x),
     }
 }
 
-fn show_sizes(sizes: &[u16]) {
-    let mut i = 0;
-    while i < sizes.len() {
-        lines::last(sizes[i] as usize);
-        i += 1;
+fn show_sizes(rt: &impl Print, sizes: &[u16]) {
+    for size in sizes {
+        lines::last(rt, *size as usize);
     }
-    lines::named(b"runs ", sizes.len());
+    lines::named(rt, b"runs ", sizes.len());
 }
 
 // The prefix bit-swap, or the first two rules that cross.
-fn show_order(width: u32, care: &[u64], value: &[u64], decision: &[u16]) {
+fn show_order(rt: &impl Print, width: u32, care: &[u64], value: &[u64], decision: &[u16]) {
     let a = prefixes::prefix_swap(width, care, value, decision);
     let v = a.verdict;
     let swap = a.swap;
     match v {
-        Verdict::Fine => show_swap(swap),
-        Verdict::Refused(x) => crossing(x),
+        Verdict::Fine => show_swap(rt, swap),
+        Verdict::Refused(x) => crossing(rt, x),
     }
 }
 
-fn crossing(x: Refusal) {
+fn crossing(rt: &impl Print, x: Refusal) {
     if x.number == 8 {
-        lines::place(b"crossing ", x.list, x.rule);
+        lines::place(rt, b"crossing ", x.list, x.rule);
     } else {
-        lines::refusal(x);
+        lines::refusal(rt, x);
     }
 }
 
-fn show_swap(swap: Swap) {
-    lines::say(b"prefix swap");
+fn show_swap(rt: &impl Print, swap: Swap) {
+    lines::say(rt, b"prefix swap");
     let places = swap.places;
-    show_places(slices::bytes(&places, swap.width as usize));
-    lines::byte(b'\n');
+    show_places(rt, slices::bytes(&places, swap.width as usize));
+    lines::byte(rt, b'\n');
 }
 
-fn show_places(places: &[u8]) {
-    let mut i = 0;
-    while i < places.len() {
-        lines::byte(b' ');
-        lines::number(places[i] as usize);
-        i += 1;
+fn show_places(rt: &impl Print, places: &[u8]) {
+    for place in places {
+        lines::byte(rt, b' ');
+        lines::number(rt, *place as usize);
     }
 }

@@ -4,21 +4,23 @@ use crate::{files, lines, lists, slices};
 use command_line::Command;
 use image::NumberAnswer;
 use pruning::{Pruned, Tally};
+use std::io::Print;
+use std::rt::{Env, Files};
 use weaving::Woven;
 
 // weave FILE OUT and prune FILE OUT. The image is made whole before there is a file of it, and the lines are written once the file is in its
 // place.
-pub(crate) fn squeeze(at: usize, image: &[u8], request: Request) {
+pub(crate) fn squeeze(rt: &(impl Env + Files + Print), at: usize, image: &[u8], request: Request) {
     let command = request.command;
-    let mut squeezed = io::large_buffer();
+    let mut squeezed = [0u8; 65536];
     let o = squeezed_image(command, image, &mut squeezed);
     match o {
         NumberAnswer::Number(n) => {
-            if files::save_word(at, 3, slices::bytes(&squeezed, n)) {
-                lists::each(image, request);
+            if files::save_word(rt, at, 3, slices::bytes(&squeezed, n)) {
+                lists::each(rt, image, request);
             }
         }
-        NumberAnswer::Refused(x) => lines::refusal(x),
+        NumberAnswer::Refused(x) => lines::refusal(rt, x),
     }
 }
 
@@ -30,38 +32,38 @@ fn squeezed_image(command: Command, image: &[u8], out: &mut [u8]) -> NumberAnswe
 }
 
 // How many rules a list had, after its name.
-pub(crate) fn begin(rules: usize) {
-    lines::byte(b':');
-    lines::byte(b' ');
-    lines::counted(rules, b" rules, ");
+pub(crate) fn begin(rt: &impl Print, rules: usize) {
+    lines::byte(rt, b':');
+    lines::byte(rt, b' ');
+    lines::counted(rt, rules, b" rules, ");
 }
 
-fn counts(kept: usize, dropped: usize) {
-    lines::counted(kept, b" kept, ");
-    lines::counted(dropped, b" dropped");
+fn counts(rt: &impl Print, kept: usize, dropped: usize) {
+    lines::counted(rt, kept, b" kept, ");
+    lines::counted(rt, dropped, b" dropped");
 }
 
 // What became of a list with so many rules that was woven, after its name.
-pub(crate) fn report(image: &[u8], id: u16, rules: usize) {
-    begin(rules);
+pub(crate) fn report(rt: &impl Print, image: &[u8], id: u16, rules: usize) {
+    begin(rt, rules);
     let w = image_weaving::tally(image, id);
     match w {
         Woven::Done(t) => {
-            counts(t.kept, t.dropped);
-            merges(t.merged);
+            counts(rt, t.kept, t.dropped);
+            merges(rt, t.merged);
         }
-        Woven::Refused(x) => lines::refusal(x),
+        Woven::Refused(x) => lines::refusal(rt, x),
     }
 }
 
-fn merges(merged: usize) {
-    lines::byte(b',');
-    lines::byte(b' ');
-    lines::counted(merged, b" merged\n");
+fn merges(rt: &impl Print, merged: usize) {
+    lines::byte(rt, b',');
+    lines::byte(rt, b' ');
+    lines::counted(rt, merged, b" merged\n");
 }
 
 // What becomes of a list that is pruned: the counts, and a line for each rule that is kept.
-pub(crate) fn prune(width: u32, care: &[u64], value: &[u64], decision: &[u16]) {
+pub(crate) fn prune(rt: &impl Print, width: u32, care: &[u64], value: &[u64], decision: &[u16]) {
     let mut cares = [0u64; 2048];
     let mut values = [0u64; 2048];
     let mut decisions = [0u16; 1024];
@@ -77,13 +79,14 @@ pub(crate) fn prune(width: u32, care: &[u64], value: &[u64], decision: &[u16]) {
         &mut headers,
     );
     match p {
-        Pruned::Done(t) => show_kept(width, t, &cares, &values, &decisions, &headers),
-        Pruned::Refused(x) => lines::refusal(x),
+        Pruned::Done(t) => show_kept(rt, width, t, &cares, &values, &decisions, &headers),
+        Pruned::Refused(x) => lines::refusal(rt, x),
     }
 }
 
 // The counts, and the rules that are kept, each with the lowest header that needs it.
 fn show_kept(
+    rt: &impl Print,
     width: u32,
     tally: Tally,
     care: &[u64],
@@ -92,12 +95,10 @@ fn show_kept(
     header: &[u64],
 ) {
     let kept = tally.kept;
-    counts(kept, tally.dropped);
-    lines::byte(b'\n');
-    let mut i = 0;
-    while i < kept {
-        lines::rule(width, rules::rule_at(care, value, decision, i));
-        lines::needed(words::word_at(header, i));
-        i += 1;
+    counts(rt, kept, tally.dropped);
+    lines::byte(rt, b'\n');
+    for i in 0..kept {
+        lines::rule(rt, width, rules::rule_at(care, value, decision, i));
+        lines::needed(rt, words::word_at(header, i));
     }
 }
