@@ -4,7 +4,8 @@
 // A word and the name of a file are bytes. The standard library takes names of files in UTF-8 alone: no file has another name here.
 #![tactic(auto)]
 
-ghost use Rattle.std.specs.Prelude.{◌≤◌, length};
+ghost use Rattle.std.specs.Prelude.{◌≤◌, length, take};
+ghost use Rattle.std.specs.Io.KnownBytes.{Consumes};
 
 use std::env::FillError;
 use std::fs;
@@ -82,9 +83,11 @@ pub fn remove(rt: &impl Files, name: &[u8]) {
     }
 }
 
-// Reads until the slice is full, the input ends or a read fails, and answers how many bytes stand at the start of the slice then.
-pub fn read_full(file: &mut impl Read, to: &mut [u8]) -> usize
-    ensures { result ≤ length to.new }
+// Reads until the slice is full, the input ends or a read fails, and answers how many bytes stand at the start of the slice then: the
+// next ones of the input.
+pub fn read_full<R: Read>(file: &mut R, to: &mut [u8]) -> usize
+    ensures within { result ≤ length to.new }
+    ensures bytes { Consumes (R.remaining file.old) (R.remaining file.new) (take result to.new) }
 {
     let mut done = 0;
     while done < to.len() {
