@@ -20,21 +20,21 @@ use Rattle.compare.proofs.ExceptLaws.{except-past, unmatched-first, earlier-firs
 -- ---- the first number for which a test holds
 
 -- The test holds for none of the numbers from s on and below e.
-abbrev None : (f : ℕ → Bool) → (s e : ℕ) → Type 0
+abbrev pub None : (f : ℕ → Bool) → (s e : ℕ) → Type 0
 None f s e = (x : ℕ) → s ≤ x → x < e → f x ≡ false
 
 -- Number h is the first of n numbers from s on for which it holds.
-record FirstFrom (f : ℕ → Bool) (n s h : ℕ) : Type 0 where
-  from : s ≤ h
-  inside : h < s + n
-  holds : f h ≡ true
-  none : None f s h
+pub record FirstFrom (f : ℕ → Bool) (n s h : ℕ) : Type 0 where
+  pub from : s ≤ h
+  pub inside : h < s + n
+  pub holds : f h ≡ true
+  pub none : None f s h
 
 -- a list of one number is not empty, and has one first number
 one_none : {h : ℕ} → ◌≡◌ {A = List ℕ} (h ∷ []) [] → ⊥
 one_none e = let z : ◌≡◌ {A = ℕ} 0 1 = cc in omega arith
 
-one-one : {g h : ℕ} → ◌≡◌ {A = List ℕ} (g ∷ []) (h ∷ []) → g ≡ h
+pub one-one : {g h : ℕ} → ◌≡◌ {A = List ℕ} (g ∷ []) (h ∷ []) → g ≡ h
 one-one e = cc
 
 module _ (f : ℕ → Bool) where
@@ -67,7 +67,7 @@ module _ (f : ℕ → Bool) where
       split (eqb x s) (λ t. ap f (eqb-true x s t) ∙ m) (λ t. let d : x ≢ s = eqb-false x s t in a x (omega arith) v)
 
   -- of n numbers there is a first one, or none
-  first_or_none : (n s : ℕ) → None f s (s + n) ⊎ ((h : ℕ) × FirstFrom f n s h)
+  pub first_or_none : (n s : ℕ) → None f s (s + n) ⊎ ((h : ℕ) × FirstFrom f n s h)
   first_or_none zero s = inl (λ x u v. absurd (omega arith))
   first_or_none (suc n) s =
       split (f s)
@@ -81,14 +81,14 @@ module _ (f : ℕ → Bool) where
           let p = t.1 in
           inr (t.0, record { from = omega (arith, p.from); inside = omega (arith, p.inside); holds = p.holds; none = none_more s t.0 m p.none })
 
-  found : (n s h : ℕ) → FirstFrom f n s h → lowest_from f n s ≡ h ∷ []
+  pub found : (n s h : ℕ) → FirstFrom f n s h → lowest_from f n s ≡ h ∷ []
   found n s h p = lowest-found n s h p.from p.inside p.holds p.none
 
   -- what is found says what there is
-  none_told : (n s : ℕ) → lowest_from f n s ≡ [] → None f s (s + n)
+  pub none_told : (n s : ℕ) → lowest_from f n s ≡ [] → None f s (s + n)
   none_told n s e = ⊎_elim (λ a. a) (λ t. absurd (one_none (sym (found n s t.0 t.1) ∙ e))) (first_or_none n s)
 
-  found-told : (n s h : ℕ) → lowest_from f n s ≡ h ∷ [] → FirstFrom f n s h
+  pub found-told : (n s h : ℕ) → lowest_from f n s ≡ h ∷ [] → FirstFrom f n s h
   found-told n s h e =
       ⊎_elim (λ a. absurd (one_none (sym e ∙ lowest-none n s a)))
       (λ t. subst (FirstFrom f n s) (one-one (sym (found n s t.0 t.1) ∙ e)) t.1) (first_or_none n s)

@@ -4,7 +4,7 @@
 // A word and the name of a file are bytes. The standard library takes names of files in UTF-8 alone: no file has another name here.
 #![tactic(auto)]
 
-ghost use Rattle.std.specs.Prelude.{◌≤◌, length, take};
+ghost use Rattle.std.specs.Prelude.{IfSome, IsTrue, IsUtf8, ◌≤◌, length, take};
 ghost use Rattle.std.specs.Io.KnownBytes.{Consumes};
 
 use std::env::FillError;
@@ -48,16 +48,20 @@ pub fn word(rt: &impl Env, i: usize, to: &mut [u8]) -> usize
     }
 }
 
-// Opens a file for reading.
-pub fn open<R: Files>(rt: &R, name: &[u8]) -> Option<R::File> {
+// Opens a file for reading: none has a name that is not text.
+pub fn open<R: Files>(rt: &R, name: &[u8]) -> Option<R::File>
+    ensures { IfSome result (λ f. IsUtf8 name.now) }
+{
     let Ok(text) = str::from_utf8(name) else {
         return None;
     };
     fs::open(rt, text).ok()
 }
 
-// Makes a file that is not there yet, and opens it for writing.
-pub fn create<R: Files>(rt: &R, name: &[u8]) -> Option<R::File> {
+// Makes a file that is not there yet, and opens it for writing; none with a name that is not text.
+pub fn create<R: Files>(rt: &R, name: &[u8]) -> Option<R::File>
+    ensures { IfSome result (λ f. IsUtf8 name.now) }
+{
     let Ok(text) = str::from_utf8(name) else {
         return None;
     };
@@ -69,7 +73,9 @@ pub fn create<R: Files>(rt: &R, name: &[u8]) -> Option<R::File> {
 }
 
 // Gives a file another name, in the place of the file that has it, if there is one; whether that was done.
-pub fn rename(rt: &impl Files, from: &[u8], to: &[u8]) -> bool {
+pub fn rename(rt: &impl Files, from: &[u8], to: &[u8]) -> bool
+    ensures { IsTrue result → IsUtf8 from.now × IsUtf8 to.now }
+{
     match (str::from_utf8(from), str::from_utf8(to)) {
         (Ok(old), Ok(new)) => fs::rename(rt, old, new).is_ok(),
         _ => false,
