@@ -1,27 +1,23 @@
 use mathlib.Core.Path.{ap₂, ◌∙◌}
-use Prim.Native.Nat.{◌≤◌}
 use native.Mathlib.Omega.{arith}
 use borrow.Author.Rules.{rules}
-use lib.ListN.{length}
-use Rattle.rules.specs.Slices.{rules_of}
-use Rattle.rules.proofs.SliceLaws.{told, rules-length}
+use Rattle.rules.proofs.SliceLaws.{told}
 use Rattle.rules.specs.Rules.{crosses}
-use Rattle.weaving.proofs.ChunkLaws.{looking-none, looking-more, looking-yes, looking-no}
+use Rattle.weaving.proofs.ChunkLaws.{rules-fit, looking-none, looking-more, looking-yes, looking-no}
 use Rattle.weaving.proofs.cutting.crossed.Goals as goal
 
 pub loop-i-init : goal.loop-i-init
 loop-i-init c = (search rules, search rules, looking-none _ _ _ _)
 
 pub returns-then-rule_crosses : goal.returns-then-rule_crosses
-returns-then-rule_crosses c = let inside : c.args.k ≤ length (rules_of c.args.care.now c.args.value.now c.args.decision.now) = omega (arith, rules-length _ _ _ c.requires.lent, c.requires.from_le_k.1) in
-    looking-yes _ _ _ _ _ _ c.loop-i-test.true (inside)
+returns-then-rule_crosses c = looking-yes _ _ _ _ _ _ c.loop-i-test.true (rules-fit _ _ _ _ c.requires.lent (omega (arith, c.requires.from_le_k.1)))
     (c.rule_crosses.ensures ∙ ap₂ crosses (told c.rule_at-b.ensures) (told c.rule_at.ensures)) c.if-rule_crosses.true c.loop-i.invariant.2
 
 pub loop-i-preserved : goal.loop-i-preserved
-loop-i-preserved c = let inside : c.args.k ≤ length (rules_of c.args.care.now c.args.value.now c.args.decision.now) = omega (arith, rules-length _ _ _ c.requires.lent, c.requires.from_le_k.1) in (
+loop-i-preserved c = (
   search rules,
   search rules,
-  looking-more _ _ _ _ _ _ c.loop-i-test.true (inside)
+  looking-more _ _ _ _ _ _ c.loop-i-test.true (rules-fit _ _ _ _ c.requires.lent (omega (arith, c.requires.from_le_k.1)))
       (c.rule_crosses.ensures ∙ ap₂ crosses (told c.rule_at-b.ensures) (told c.rule_at.ensures)) c.if-rule_crosses.false c.loop-i.invariant.2,
 )
 

@@ -1,12 +1,7 @@
-use mathlib.Core.Path.{◌≡◌, refl, sym}
-use mathlib.Core.List.{List}
-use Prim.Native.Nat.{◌≤◌}
+use mathlib.Core.Path.{refl, sym}
 use native.Mathlib.Omega.{arith}
 use borrow.Author.Rules.{rules}
-use lib.ListN.{length}
-use Rattle.rules.specs.Rule.{Rule}
-use Rattle.rules.specs.Slices.{rules_of}
-use Rattle.rules.proofs.SliceLaws.{rules-length}
+use Rattle.rules.proofs.SliceLaws.{rules-length, few-decisions}
 use Rattle.weaving.proofs.SizeLaws.{sized-none, sized-more, sized-done}
 use Rattle.weaving.proofs.cutting.put_sizes.Goals as goal
 
@@ -20,14 +15,10 @@ pub overflow_sub-sizes : goal.overflow_sub-sizes
 overflow_sub-sizes c = omega (arith, c.run_end-to.ensures.later)
 
 pub overflow_cast-sizes : goal.overflow_cast-sizes
-overflow_cast-sizes c = let rs : List Rule = rules_of c.args.care.now c.args.value.now c.args.decision.now in
-    let size : length (rs) ≡ length c.args.decision.now = rules-length _ _ _ c.requires.lent in
-    omega (arith, c.run_end-to.ensures.inside, size, c.requires.decision_len_bound.0)
+overflow_cast-sizes c = omega (arith, c.run_end-to.ensures.inside, rules-length _ _ _ c.requires.lent, c.requires.decision_len_bound.0)
 
 pub offset_bounds-sizes-at : goal.offset_bounds-sizes-at
-offset_bounds-sizes-at c = let rs : List Rule = rules_of c.args.care.now c.args.value.now c.args.decision.now in
-    let size : length (rs) ≡ length c.args.decision.now = rules-length _ _ _ c.requires.lent in
-    omega (arith, c.loop-from.invariant.1.behind, size, c.requires.decision_len_bound.0)
+offset_bounds-sizes-at c = omega (arith, c.loop-from.invariant.1.behind, rules-length _ _ _ c.requires.lent, c.requires.decision_len_bound.0)
 
 pub bounds-sizes-at : goal.bounds-sizes-at
 bounds-sizes-at c = omega (arith, c.loop-from.invariant.0, c.loop-from.invariant.1.behind, c.loop-from-test.true, c.requires.decision_len_bound.1)
@@ -39,22 +30,16 @@ pub loop-from-smaller : goal.loop-from-smaller
 loop-from-smaller c = omega (arith, c.run_end-to.ensures.later, c.loop-from-test.true)
 
 pub loop-from-preserved : goal.loop-from-preserved
-loop-from-preserved c = let rs : List Rule = rules_of c.args.care.now c.args.value.now c.args.decision.now in
-    let size : length (rs) ≡ length c.args.decision.now = rules-length _ _ _ c.requires.lent in
-    let o = c.loop-from in
-    let room : length (rs) ≤ length o.sizes = omega (arith, size, o.invariant.0, c.requires.decision_len_bound.1) in
-    (search rules, sized-more _ _ _ _ _ _ o.invariant.1 c.run_end-to.ensures room)
+loop-from-preserved c = let o = c.loop-from in
+    (search rules, sized-more _ _ _ _ _ _ o.invariant.1 c.run_end-to.ensures (few-decisions _ _ _ _ (omega (arith, o.invariant.0, c.requires.decision_len_bound.1))))
 
 pub clear_sizes-requires : goal.clear_sizes-requires
-clear_sizes-requires c = let rs : List Rule = rules_of c.args.care.now c.args.value.now c.args.decision.now in
-    let size : length (rs) ≡ length c.args.decision.now = rules-length _ _ _ c.requires.lent in
-    let o = c.loop-from in
+clear_sizes-requires c = let o = c.loop-from in
+    let size = rules-length _ _ _ c.requires.lent in
     (omega (arith, o.invariant.1.behind, o.invariant.1.inside, size), omega (arith, o.invariant.0, o.invariant.1.behind, o.invariant.1.inside, size, c.requires.decision_len_bound.1))
 
 pub returns : goal.returns
-returns c = let rs : List Rule = rules_of c.args.care.now c.args.value.now c.args.decision.now in
-    let size : length (rs) ≡ length c.args.decision.now = rules-length _ _ _ c.requires.lent in
-    let o = c.loop-from in
-    let e : o.from ≡ length (rs) = omega (arith, o.invariant.1.inside, size, c.loop-from-test.false) in
-    let room : length (rs) ≤ length o.sizes = omega (arith, size, o.invariant.0, c.requires.decision_len_bound.1) in
-    sized-done _ _ _ _ _ _ _ o.invariant.1 c.clear_sizes.ensures e (sym (size)) room
+returns c = let o = c.loop-from in
+    let size = rules-length _ _ _ c.requires.lent in
+    sized-done _ _ _ _ _ _ _ o.invariant.1 c.clear_sizes.ensures (omega (arith, o.invariant.1.inside, size, c.loop-from-test.false)) (sym size)
+    (few-decisions _ _ _ _ (omega (arith, o.invariant.0, c.requires.decision_len_bound.1)))

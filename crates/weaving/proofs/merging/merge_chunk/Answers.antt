@@ -1,13 +1,8 @@
 use mathlib.Core.Path.{refl}
-use mathlib.Core.List.{List}
-use Prim.Native.Nat.{◌≤◌}
 use native.Mathlib.Omega.{arith}
 use borrow.Author.Rules.{rules}
-use lib.ListN.{length}
-use Rattle.rules.specs.Rule.{Rule}
-use Rattle.rules.specs.Slices.{rules_of}
-use Rattle.rules.proofs.SliceLaws.{kept-lent, rules-length}
 use Rattle.weaving.proofs.PairLaws.{tried-none, pair_of, none_of}
+use Rattle.weaving.proofs.LaidLaws.{kept-fits}
 use Rattle.weaving.proofs.GapLaws.{merging-none, merging-pair, merging-done, tried-merged}
 use Rattle.weaving.proofs.merging.merge_chunk.Goals as goal
 
@@ -18,30 +13,24 @@ pub find_pair-requires : goal.find_pair-requires
 find_pair-requires c = record { lent = search rules; from_le_to = search rules; tried = c.loop-i.invariant.2 }
 
 pub returns-in_default : goal.returns-in_default
-returns-in_default c = let fits : c.args.to ≤ length (rules_of c.loop-i.care c.loop-i.value c.loop-i.decision) = omega (arith, rules-length _ _ _ (kept-lent _ _ _ _ _ _ c.loop-i.invariant.0 c.requires.lent), c.loop-i.invariant.0.cares, c.requires.from_le_to.1) in
-    let cur : List Rule = rules_of c.loop-i.care c.loop-i.value c.loop-i.decision in
-    merging-done _ _ _ _ _ (fits) c.loop-i.invariant.1 (none_of (cur) _ _ _ c.find_pair.ensures c.in_default.is)
+returns-in_default c = merging-done _ _ _ _ _ (kept-fits _ _ _ _ _ _ _ c.loop-i.invariant.0 c.requires.lent c.requires.from_le_to.1) c.loop-i.invariant.1
+    (none_of _ _ _ _ c.find_pair.ensures c.in_default.is)
 
 pub merge_pair-requires : goal.merge_pair-requires
-merge_pair-requires c = let cur : List Rule = rules_of c.loop-i.care c.loop-i.value c.loop-i.decision in
-    let p = pair_of (cur) _ _ _ _ _ c.find_pair.ensures c.in-At.is in
+merge_pair-requires c = let p = pair_of _ _ _ _ _ _ c.find_pair.ensures c.in-At.is in
     record { lent = search rules; i_lt_j = (p.later, p.inside, search rules) }
 
 pub overflow_sub-end : goal.overflow_sub-end
-overflow_sub-end c = let cur : List Rule = rules_of c.loop-i.care c.loop-i.value c.loop-i.decision in
-    let p = pair_of (cur) _ _ _ _ _ c.find_pair.ensures c.in-At.is in omega (arith, p.inside)
+overflow_sub-end c = omega (arith, (pair_of _ _ _ _ _ _ c.find_pair.ensures c.in-At.is).inside)
 
 pub loop-i-smaller : goal.loop-i-smaller
-loop-i-smaller c = let cur : List Rule = rules_of c.loop-i.care c.loop-i.value c.loop-i.decision in
-    let p = pair_of (cur) _ _ _ _ _ c.find_pair.ensures c.in-At.is in omega (arith, p.inside)
+loop-i-smaller c = omega (arith, (pair_of _ _ _ _ _ _ c.find_pair.ensures c.in-At.is).inside)
 
 pub loop-i-preserved : goal.loop-i-preserved
-loop-i-preserved c = let fits : c.args.to ≤ length (rules_of c.loop-i.care c.loop-i.value c.loop-i.decision) = omega (arith, rules-length _ _ _ (kept-lent _ _ _ _ _ _ c.loop-i.invariant.0 c.requires.lent), c.loop-i.invariant.0.cares, c.requires.from_le_to.1) in
-    let cur : List Rule = rules_of c.loop-i.care c.loop-i.value c.loop-i.decision in
-    let p = pair_of (cur) _ _ _ _ _ c.find_pair.ensures c.in-At.is in
+loop-i-preserved c = let p = pair_of _ _ _ _ _ _ c.find_pair.ensures c.in-At.is in
     let o = c.loop-i in
     let m = c.merge_pair in (
       record { cares = search rules; values = search rules; decisions = search rules },
-      merging-pair _ _ _ _ _ _ _ _ (fits) o.invariant.1 p m.ensures,
+      merging-pair _ _ _ _ _ _ _ _ (kept-fits _ _ _ _ _ _ _ o.invariant.0 c.requires.lent c.requires.from_le_to.1) o.invariant.1 p m.ensures,
       tried-merged _ _ _ _ _ _ _ _ _ o.invariant.2 p c.still_done-done.ensures m.ensures,
     )
