@@ -7,6 +7,11 @@ use Rattle.compare.proofs.EngineWords.{fewer}
 use Rattle.compare.proofs.EngineSieve.{sieve-start, sieve-end, sieve-past, sieve-word, sieve-there, sieve-on, like-narrowed, like-kept}
 use native.Mathlib.Omega.{arith}
 use Rattle.compare.proofs.engine_sets.narrow.Goals as goal
+use Rattle.compare.proofs.engine_sets.narrow.Goals.{Else-w-n}
+
+-- A group of 64 rules that the test lets through begins at one of the rules.
+inside : (c : Else-w-n) → count_trailing_zeros 64 c.loop-some.some * 64 < length (words_of c.args.care.now)
+inside c = omega (arith, c.if-w-n.false, words-length c.args.care.now)
 
 pub loop-some-init : goal.loop-some-init
 loop-some-init c = let p = c.requires in sieve-start _ _ _ _ _ _ p.3 p.4
@@ -21,18 +26,18 @@ pub returns-then-w-n : goal.returns-then-w-n
 returns-then-w-n c = sieve-past _ _ _ _ _ _ _ c.loop-some.invariant (omega (arith, c.if-w-n.true, words-length c.args.care.now))
 
 pub sift-p-requires : goal.sift-p-requires
-sift-p-requires c = let a = c.args in
+sift-p-requires c =
     let p = c.requires in
     let L = c.loop-some in
-    let l : count_trailing_zeros 64 L.some * 64 < length (words_of a.care.now) = omega (arith, c.if-w-n.false, words-length a.care.now) in
+    let l = inside (goal.at.sift-p-requires c).Else-w-n in
     let S = L.invariant in
     (p.0, p.1, p.2, l, sieve-there _ _ _ _ _ _ _ S l p.0, sieve-word _ _ _ _ _ _ _ S l p.0)
 
 pub put_word-requires : goal.put_word-requires
-put_word-requires c = let a = c.args in
+put_word-requires c =
     let p = c.requires in
     let L = c.loop-some in
-    let l : count_trailing_zeros 64 L.some * 64 < length (words_of a.care.now) = omega (arith, c.if-w-n.false, words-length a.care.now) in
+    let l = inside (goal.at.put_word-requires c).Else-w-n in
     let S = L.invariant in
     let K = sieve-word _ _ _ _ _ _ _ S l p.0 in
     (K.sized, omega (arith, p.0, l), K.above)
@@ -47,10 +52,10 @@ pub loop-some-smaller : goal.loop-some-smaller
 loop-some-smaller c = fewer c.loop-some.some c.loop-some-test.true
 
 pub loop-some-preserved : goal.loop-some-preserved
-loop-some-preserved c = let a = c.args in
+loop-some-preserved c =
     let p = c.requires in
     let L = c.loop-some in
-    let l : count_trailing_zeros 64 L.some * 64 < length (words_of a.care.now) = omega (arith, c.if-w-n.false, words-length a.care.now) in
+    let l = inside (goal.at.loop-some-preserved c).Else-w-n in
     let S = L.invariant in
     let E = c.put_word.ensures in
     sieve-on _ _ _ _ _ _ _ S l p.0 _ (like-kept _ _ _ _ E.1 _ _ _ _ E.0 (c.sift-p.ensures.1 c.if-p.false))

@@ -8,39 +8,49 @@ use Rattle.words.proofs.Tests.{eqb_yes}
 use Rattle.words.proofs.WordLaws.{holds}
 use Rattle.swaps.proofs.ReturnLaws.{Top, top, of_one, word_held, without-less, return-none, place_in, return-more, return-all}
 use Rattle.swaps.proofs.swaps.returned_word.Goals as goal
+use Rattle.swaps.proofs.swaps.returned_word.Goals.{After-leading_zeros-weight}
+
+-- At each turn the highest bit that is left has been found.
+found : (c : After-leading_zeros-weight) → Top 128 c.args.width (num c.loop-left.left) c.leading_zeros-weight.result
+found c = top 128 _ _ c.requires.0 c.loop-left.invariant.1.rest c.is_zero.ensures (ap not c.loop-left-test.true) c.leading_zeros-weight.ensures
 
 pub loop-left-init : goal.loop-left-init
 loop-left-init c = (word_held _ c.wide-out.ensures, rw (holds c.wide-out.ensures) (return-none _ _ _ c.requires.2))
 
 pub overflow_sub-weight : goal.overflow_sub-weight
-overflow_sub-weight c = let found : Top 128 c.args.width (num c.loop-left.left) c.leading_zeros-weight.result = top 128 _ _ c.requires.0 c.loop-left.invariant.1.rest c.is_zero.ensures (ap not c.loop-left-test.true) c.leading_zeros-weight.ensures in
-    let t = found in omega arith
+overflow_sub-weight c =
+    let t = found (goal.at.overflow_sub-weight c).After-leading_zeros-weight in
+    omega arith
 
 pub overflow_sub-place : goal.overflow_sub-place
-overflow_sub-place c = let found : Top 128 c.args.width (num c.loop-left.left) c.leading_zeros-weight.result = top 128 _ _ c.requires.0 c.loop-left.invariant.1.rest c.is_zero.ensures (ap not c.loop-left-test.true) c.leading_zeros-weight.ensures in
-    let t = found in omega arith
+overflow_sub-place c =
+    let t = found (goal.at.overflow_sub-place c).After-leading_zeros-weight in
+    omega arith
 
 pub overflow_sub-place-in-loop-left : goal.overflow_sub-place-in-loop-left
-overflow_sub-place-in-loop-left c = let found : Top 128 c.args.width (num c.loop-left.left) c.leading_zeros-weight.result = top 128 _ _ c.requires.0 c.loop-left.invariant.1.rest c.is_zero.ensures (ap not c.loop-left-test.true) c.leading_zeros-weight.ensures in
-    let t = found in omega arith
+overflow_sub-place-in-loop-left c =
+    let t = found (goal.at.overflow_sub-place-in-loop-left c).After-leading_zeros-weight in
+    omega arith
 
 pub overflow_cast-place-in-loop-left : goal.overflow_cast-place-in-loop-left
-overflow_cast-place-in-loop-left c = let found : Top 128 c.args.width (num c.loop-left.left) c.leading_zeros-weight.result = top 128 _ _ c.requires.0 c.loop-left.invariant.1.rest c.is_zero.ensures (ap not c.loop-left-test.true) c.leading_zeros-weight.ensures in
-    omega (arith, place_in _ _ _ c.requires.0 c.requires.1 _ (found).inside)
+overflow_cast-place-in-loop-left c =
+    let t = found (goal.at.overflow_cast-place-in-loop-left c).After-leading_zeros-weight in
+    omega (arith, place_in _ _ _ c.requires.0 c.requires.1 _ t.inside)
 
 pub overflow_sub-width : goal.overflow_sub-width
-overflow_sub-width c = let found : Top 128 c.args.width (num c.loop-left.left) c.leading_zeros-weight.result = top 128 _ _ c.requires.0 c.loop-left.invariant.1.rest c.is_zero.ensures (ap not c.loop-left-test.true) c.leading_zeros-weight.ensures in
-    omega (arith, place_in _ _ _ c.requires.0 c.requires.1 _ (found).inside)
+overflow_sub-width c =
+    let t = found (goal.at.overflow_sub-width c).After-leading_zeros-weight in
+    omega (arith, place_in _ _ _ c.requires.0 c.requires.1 _ t.inside)
 
 pub loop-left-smaller : goal.loop-left-smaller
-loop-left-smaller c = let found : Top 128 c.args.width (num c.loop-left.left) c.leading_zeros-weight.result = top 128 _ _ c.requires.0 c.loop-left.invariant.1.rest c.is_zero.ensures (ap not c.loop-left-test.true) c.leading_zeros-weight.ensures in
-    let t = found in
+loop-left-smaller c =
+    let t = found (goal.at.loop-left-smaller c).After-leading_zeros-weight in
     rw (of_one (without _) _ (omega arith) c.single-in-loop-left.ensures c.without-left.ensures) (without-less _ _ t.set)
 
 pub loop-left-preserved : goal.loop-left-preserved
-loop-left-preserved c = let found : Top 128 c.args.width (num c.loop-left.left) c.leading_zeros-weight.result = top 128 _ _ c.requires.0 c.loop-left.invariant.1.rest c.is_zero.ensures (ap not c.loop-left-test.true) c.leading_zeros-weight.ensures in
+loop-left-preserved c =
+    let t = found (goal.at.loop-left-preserved c).After-leading_zeros-weight in
     let l = c.loop-left in
-    let t = found in
     let h = place_in _ _ _ c.requires.0 c.requires.1 _ t.inside in
     let o = of_one (bit_or (num l.out)) _ (omega arith) c.single.ensures c.or-out.ensures in
     let n = of_one (without (num l.left)) _ (omega arith) c.single-in-loop-left.ensures c.without-left.ensures in (
@@ -49,5 +59,6 @@ loop-left-preserved c = let found : Top 128 c.args.width (num c.loop-left.left) 
     )
 
 pub returns : goal.returns
-returns c = let l = c.loop-left in
+returns c =
+    let l = c.loop-left in
     l.invariant.0 ∙ ap halves (return-all _ _ _ c.requires.0 c.requires.1 _ _ _ (eqb_yes _ _ (sym c.is_zero.ensures ∙ c.loop-left-test.false)) l.invariant.1)
