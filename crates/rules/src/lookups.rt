@@ -8,9 +8,9 @@ ghost use Rattle.rules.specs.Replies.{looked_reply};
 ghost use Rattle.rules.specs.Calls.{looked_up};
 ghost use Rattle.rules.specs.Found.{FirstAt};
 
-use crate::checks::check_list;
+use crate::checks::{check_header, check_list};
 use crate::slices::rule_at;
-use crate::{Hit, Looked, Refusal, Rule, Verdict, Wire};
+use crate::{Hit, Refusal, Rule, Wire};
 use words::Word;
 
 // Whether the header has the rule's value where the rule cares.
@@ -21,25 +21,21 @@ fn rule_matches(rule: Rule, header: Word) -> bool
 }
 
 // Where the first matching rule stands, counted from 0.
-#[derive(Clone, Copy)]
-pub(crate) enum FirstMatch {
-    At(usize),
-    Nothing,
-}
-
-// The first rule that matches.
-pub(crate) fn first_match(care: &[u64], value: &[u64], decision: &[u16], header: Word) -> FirstMatch
+pub(crate) fn first_match(
+    care: &[u64],
+    value: &[u64],
+    decision: &[u16],
+    header: Word,
+) -> Option<usize>
     requires { Lent care.now value.now decision.now }
     ensures { FirstAt (rules_of care.now value.now decision.now) (num header) result }
 {
-    let mut i: usize = 0;
-    while i < decision.len() {
+    for i in 0..decision.len() {
         if rule_matches(rule_at(care, value, decision, i), header) {
-            return FirstMatch::At(i);
+            return Some(i);
         }
-        i += 1;
     }
-    FirstMatch::Nothing
+    None
 }
 
 // Looks a header up that is given as its number, for the calls on headers of either order: the checks of the list, then 6;
@@ -50,34 +46,31 @@ pub fn lookup_number(
     value: &[u64],
     decision: &[u16],
     header: Word,
-) -> Looked
+) -> Result<Option<Hit>, Refusal>
     ensures { looked_reply result
         ≡ looked_up width care.now value.now decision.now (num header) }
 {
-    let v = check_list(width, care, value, decision);
-    if let Verdict::Refused(x) = v {
-        return Looked::Refused(x);
-    }
-    if words::below(header, width) {
-        let FirstMatch::At(i) = first_match(care, value, decision, header) else {
-            return Looked::Miss;
-        };
-        let number = i + 1;
-        let rule = rule_at(care, value, decision, i);
-        return Looked::Hit(Hit {
-            number,
-            decision: rule.decision,
-        });
-    }
-    Looked::Refused(Refusal {
-        number: 6,
-        list: 0,
-        rule: 0,
-    })
+    check_list(width, care, value, decision)?;
+    check_header(width, header)?;
+    let Some(i) = first_match(care, value, decision, header) else {
+        return Ok(None);
+    };
+    let number = i + 1;
+    let rule = rule_at(care, value, decision, i);
+    Ok(Some(Hit {
+        number,
+        decision: rule.decision,
+    }))
 }
 
 // Looks a header in wire order up.
-pub fn lookup(width: u32, care: &[u64], value: &[u64], decision: &[u16], header: Wire) -> Looked
+pub fn lookup(
+    width: u32,
+    care: &[u64],
+    value: &[u64],
+    decision: &[u16],
+    header: Wire,
+) -> Result<Option<Hit>, Refusal>
     ensures { looked_reply result
         ≡ looked_up width care.now value.now decision.now (num header.0) }
 {
