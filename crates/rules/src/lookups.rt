@@ -17,7 +17,7 @@ use words::Word;
 fn rule_matches(rule: Rule, header: Word) -> bool
     ensures { result ≡ matches (rule_of rule) (num header) }
 {
-    words::same(bits::and(header, rule.care), rule.value)
+    header & rule.care == rule.value
 }
 
 // Where the first matching rule stands, counted from 0.
