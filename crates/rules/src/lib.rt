@@ -22,6 +22,15 @@ pub struct Rule {
     pub decision: u16,
 }
 
+// A list of rules, as it is lent: three slices that belong together. A care or a value word is two numbers of its slice, the low half first,
+// and a rule has one decision. Where a list is written, its slices are lent one by one: a struct of them loses what a part of a slice holds.
+#[derive(Clone, Copy)]
+pub struct RuleList<'a> {
+    pub care: &'a [u64],
+    pub value: &'a [u64],
+    pub decision: &'a [u16],
+}
+
 // A header in wire order.
 #[derive(Clone, Copy)]
 pub struct Wire(pub Word);
