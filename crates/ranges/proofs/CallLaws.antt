@@ -11,15 +11,13 @@ use lib.Pow.{pow_mono}
 use borrow.Author.Tests.{le-leb, lt-ltb, leb-true, ltb-true, ne_eqb}
 use Rattle.words.proofs.Tests.{never_true, true-and, and-true, yes_eqb, eqb_yes}
 use Rattle.rules.specs.declared.Refusal.{Refusal}
-use Rattle.rules.specs.declared.Verdict.{Verdict}
-use Rattle.rules.specs.Replies.{Reply, Gives, Refuses, passed, refusal_reply, verdict_reply, unless_refused}
-use Rattle.rules.proofs.ReplyLaws.{Bare, bare-first, bare-need, bare-then, need-yes, need-no, need-then, need-passed, then_next, then-refuses, then-second, fine-next, refused-stop, verdict-passed}
+use Rattle.std.specs.Prelude.{Result, Ok, IsErrAnd}
+use Rattle.rules.specs.Replies.{Reply, Gives, Refuses, passed, refusal_reply}
+use Rattle.rules.proofs.ReplyLaws.{Bare, bare-first, bare-need, bare-then, need-yes, need-no, need-then, need-passed, then_next, then-refuses, then-second, then-stop, stop-up, same-refused, same-given}
 use Rattle.rules.proofs.CheckLaws.{room-yes, room-no, room-exactly}
-use Rattle.ranges.specs.declared.Covered.{Covered}
-use Rattle.ranges.specs.Prefixes.{care_word, value_word}
 use Rattle.ranges.specs.Ranges.{range_prefixes}
 use Rattle.ranges.specs.Inner.{PrefixesPut}
-use Rattle.ranges.specs.Calls.{widest_field, field_check, bounds_check, check_range, same_length_check, prefix_count_reply, prefixes_check, prefixes_reply, words_put, PrefixesDone}
+use Rattle.ranges.specs.Calls.{widest_field, field_check, bounds_check, check_range, same_length_check, prefixes_check, prefixes_reply, PrefixesDone}
 
 -- ---- the field and the range
 
@@ -91,20 +89,6 @@ ranged-end b low high r = omega (arith, r.within)
 pub ranged-next : (b low high : ℕ) → GoodRange b low high → high + 1 ≤ 2 ^ widest_field
 ranged-next b low high r = let most : 2 ^ b ≤ 2 ^ widest_field = pow_mono r.few in omega (arith, most, r.within)
 
--- ---- the number alone
-
-module _ (b low high : ℕ) (v : Verdict) (checked : verdict_reply v ≡ check_range b low high) where
-  pub call-ranged : v ≡ Verdict.Fine → GoodRange b low high
-  call-ranged f = ranged b low high (verdict-passed v _ checked f)
-
-  pub count-refused : {x : Refusal} → v ≡ Verdict.Refused x → refusal_reply x ≡ prefix_count_reply b low high
-  unfolding prefix_count_reply
-  count-refused e = sym (refused-stop v _ _ checked e)
-
-  pub count-given : (n : ℕ) → v ≡ Verdict.Fine → n ≡ length (range_prefixes b low high) → Gives (n ∷ []) ≡ prefix_count_reply b low high
-  unfolding prefix_count_reply
-  count-given n f e = ap (λ (k : ℕ). Gives (k ∷ [])) e ∙ sym (fine-next v _ _ checked f)
-
 -- ---- the prefixes
 
 pub results-no : (cs vs : List ℕ) → (length cs ≡ length vs → ⊥) → same_length_check cs vs ≡ Refuses 2 0 0
@@ -142,25 +126,25 @@ module _ (b low high : ℕ) (cs vs : List ℕ) where
         (room-exactly _ _).0 (then-second (same_length_check cs vs) _ [] r),
       )
 
-  module _ (v : Verdict) (checked : verdict_reply v ≡ prefixes_check b low high cs vs) where
-    -- a refused call changes nothing
-    pub prefixes-refused : {x : Refusal} → v ≡ Verdict.Refused x → PrefixesDone b low high cs vs cs vs (Covered.Refused x)
-    unfolding prefixes_reply
-    prefixes-refused e =
-        let s = refused-stop v _ _ checked e in
-        record {
-          reply = sym s;
-          cares = sym (ap (λ (r : Reply). unless_refused r (words_put (care_word b) (range_prefixes b low high) cs) cs) s);
-          values = sym (ap (λ (r : Reply). unless_refused r (words_put value_word (range_prefixes b low high) vs) vs) s);
-        }
+  -- a refused call changes nothing
+  pub prefixes-refused : (r : Result ℕ Refusal) (x : Refusal) → IsErrAnd r (λ y. y ≡ x) → refusal_reply x ≡ prefixes_check b low high cs vs
+      → PrefixesDone b low high cs vs cs vs r
+  unfolding prefixes_reply
+  prefixes-refused r x e f =
+      let s = then-stop (prefixes_check b low high cs vs) (Gives (length (range_prefixes b low high) ∷ [])) x (sym f) in
+      record {
+        reply = stop-up _ r _ _ x e f;
+        cares = same-refused _ x _ _ s;
+        values = same-refused _ x _ _ s;
+      }
 
-    pub prefixes-given : (cs' vs' : List ℕ) (n : ℕ) → v ≡ Verdict.Fine → PrefixesPut b low (high + 1) cs vs cs' vs' n
-        → PrefixesDone b low high cs vs cs' vs' (Covered.Prefixes n)
-    unfolding prefixes_reply
-    prefixes-given cs' vs' n f p =
-        let all = fine-next v _ _ checked f in
-        record {
-          reply = ap (λ (i : ℕ). Gives (i ∷ [])) p.count ∙ sym all;
-          cares = p.cares ∙ sym (ap (λ (r : Reply). unless_refused r (words_put (care_word b) (range_prefixes b low high) cs) cs) all);
-          values = p.values ∙ sym (ap (λ (r : Reply). unless_refused r (words_put value_word (range_prefixes b low high) vs) vs) all);
-        }
+  pub prefixes-given : (cs' vs' : List ℕ) (n : ℕ) → prefixes_check b low high cs vs ≡ passed → PrefixesPut b low (high + 1) cs vs cs' vs' n
+      → PrefixesDone b low high cs vs cs' vs' (Ok n)
+  unfolding prefixes_reply
+  prefixes-given cs' vs' n f p =
+      let all = then_next (prefixes_check b low high cs vs) (Gives (length (range_prefixes b low high) ∷ [])) f in
+      record {
+        reply = ap (λ (i : ℕ). Gives (i ∷ [])) p.count ∙ sym all;
+        cares = p.cares ∙ same-given _ _ _ _ all;
+        values = p.values ∙ same-given _ _ _ _ all;
+      }

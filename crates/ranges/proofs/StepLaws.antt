@@ -1,11 +1,10 @@
 -- The prefixes of a range from its lowest number on: first the greatest prefix that starts there, then those of the rest.
 use mathlib.Core.Path.{◌≡◌, sym, ap, ap₂, ◌∙◌, subst}
 use mathlib.Core.List.{List, [], ◌∷◌, ◌++◌, map}
-use mathlib.Core.Bool.{Bool, true, false}
+use mathlib.Core.Bool.{true, false}
 use Prim.Native.Nat.{ℕ, zero, suc, ◌+◌, ◌-◌, ◌*◌, ◌%◌, ◌^◌, ◌≤◌, ◌<◌, min}
 use native.Mathlib.Omega.{arith}
 use native.Mathlib.Nat.{pow-suc, mod-eq_of_lt}
-use native.Mathlib.Numerals.{add-one}
 use lib.Dec.{eqb, leb, ltb}
 use lib.Pow.{pow_pos, pow_mono, pow-lt}
 use lib.ListN.{length}
@@ -65,13 +64,9 @@ open-past b at end h =
     let s : 0 < 2 ^ b = pow_pos b in
     never_true (λ t. omega (arith, (opens-facts at end (suc b) t).1))
 
--- so many stars where the next number of stars cannot
-pub widest-here : (at end k : ℕ) (r : Bool) → opens at end k ≡ true → r ≡ opens at end (k + 1) → r ≡ false → Widest at end k
-widest-here at end k r o e f = record { opened = o; full = ap (opens at end) (sym (add-one k)) ∙ sym e ∙ f }
-
 -- as many as the field has bits
-pub widest-last : (b at end k : ℕ) → k ≡ b → end ≤ 2 ^ b → opens at end k ≡ true → Widest at end k
-widest-last b at end k e h o = record { opened = o; full = ap (λ (x : ℕ). opens at end (suc x)) e ∙ open-past b at end h }
+pub widest-last : (b at end k : ℕ) → k ≡ b → end ≤ 2 ^ b → opens at end k ≡ true → Widest at end b
+widest-last b at end k e h o = record { opened = ap (opens at end) (sym e) ∙ o; full = open-past b at end h }
 
 -- ---- a range that is the whole field
 

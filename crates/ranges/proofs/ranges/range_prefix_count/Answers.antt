@@ -1,16 +1,24 @@
+use mathlib.Core.Path.{sym, ap, ◌∙◌}
+use mathlib.Core.List.{[], ◌∷◌}
+use Prim.Native.Nat.{ℕ}
 use native.Mathlib.Omega.{arith}
-use Rattle.ranges.proofs.CallLaws.{call-ranged, ranged-end, ranged-next, count-refused, count-given}
+use Rattle.rules.specs.Replies.{Gives}
+use Rattle.rules.proofs.ReplyLaws.{then_next, stop-up}
+use Rattle.ranges.specs.Calls.{prefix_count_reply}
+use Rattle.ranges.proofs.CallLaws.{ranged, ranged-end, ranged-next}
 use Rattle.ranges.proofs.ranges.range_prefix_count.Goals as goal
 
-pub returns-in-Refused : goal.returns-in-Refused
-returns-in-Refused c = count-refused _ _ _ _ c.range_verdict.ensures c.in-Refused.is
+pub returns-in_err-range_verdict : goal.returns-in_err-range_verdict
+unfolding prefix_count_reply
+returns-in_err-range_verdict c = stop-up _ _ _ _ _ c.from_residual.ensures.1 c.in_err-range_verdict.ensures
 
 pub overflow_add-high : goal.overflow_add-high
-overflow_add-high c = omega (arith, ranged-next _ _ _ (call-ranged _ _ _ _ c.range_verdict.ensures c.in_default.is))
+overflow_add-high c = omega (arith, ranged-next _ _ _ (ranged _ _ _ (sym c.in_ok-range_verdict.ensures)))
 
 pub count_below-requires : goal.count_below-requires
-count_below-requires c = let r = call-ranged _ _ _ _ c.range_verdict.ensures c.in_default.is in
+count_below-requires c = let r = ranged _ _ _ (sym c.in_ok-range_verdict.ensures) in
     (r.few, omega (arith, ranged-end _ _ _ r))
 
 pub returns : goal.returns
-returns c = count-given _ _ _ _ c.range_verdict.ensures _ c.in_default.is c.count_below.ensures
+unfolding prefix_count_reply
+returns c = ap (λ (k : ℕ). Gives (k ∷ [])) c.count_below.ensures ∙ sym (then_next _ _ (sym c.in_ok-range_verdict.ensures))

@@ -14,11 +14,11 @@ pub returns-then-high-low : goal.returns-then-high-low
 returns-then-high-low c = c.refused-then-high-low.ensures
     ∙ sym (check-range _ _ _ (field-yes _ c.if-bits-lt1.false c.if-bits-gt16.false) (range-crossed _ _ _ c.if-high-low.true))
 
-pub returns-then-power-high : goal.returns-then-power-high
-returns-then-power-high c = let h : 2 ^ c.args.bits ≤ c.args.high = omega (arith, c.power.ensures, c.if-power-high.true) in
-    c.refused-then-power-high.ensures
+pub returns-then-pow-high : goal.returns-then-pow-high
+returns-then-pow-high c = let h : 2 ^ c.args.bits ≤ c.args.high = omega (arith, c.pow.ensures, c.if-pow-high.true) in
+    c.refused-then-pow-high.ensures
     ∙ sym (check-range _ _ _ (field-yes _ c.if-bits-lt1.false c.if-bits-gt16.false) (range-outside _ _ _ h))
 
 pub returns : goal.returns
-returns c = let h : c.args.high < 2 ^ c.args.bits = omega (arith, c.power.ensures, c.if-power-high.false) in
+returns c = let h : c.args.high < 2 ^ c.args.bits = omega (arith, c.pow.ensures, c.if-pow-high.false) in
     sym (check-range _ _ _ (field-yes _ c.if-bits-lt1.false c.if-bits-gt16.false) (range-yes _ _ _ c.if-high-low.false h))
