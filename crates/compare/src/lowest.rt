@@ -10,12 +10,11 @@ ghost use Rattle.compare.specs.EngineSets.{Ready, answer_of};
 ghost use Rattle.compare.specs.Search.{Lowered, AllBut, found_list};
 ghost use Rattle.compare.specs.Needed.{lowest_change, needed_reply, needed_at};
 
-use crate::Needed;
 use crate::engine::{Found, above, known_word, place, read};
 use crate::engine_cubes::differs;
 use crate::engine_sets::{Cube, narrow};
 use bits::{and, or, without};
-use rules::{Verdict, Wire, check_list};
+use rules::{Refusal, Wire, check_list};
 use words::{Word, is_zero};
 
 // Goes on from the difference h of the cube to one with 0 at the place of weight 2^k, where there is one that is the same as h at the places
@@ -135,19 +134,15 @@ pub fn needed_at(
     value: &[u64],
     decision: &[u16],
     position: usize,
-) -> Needed
+) -> Result<Option<Wire>, Refusal>
     ensures { needed_reply result ≡ needed_at width care.now value.now decision.now position }
 {
-    let v = check_list(width, care, value, decision);
-    if let Verdict::Refused(x) = v {
-        return Needed::Refused(x);
-    }
+    check_list(width, care, value, decision)?;
     if position >= decision.len() {
-        return Needed::Nowhere;
+        return Ok(None);
     }
-    let found = lowest_change(width, care, value, decision, position);
-    match found {
-        Found::At(h) => Needed::At(Wire(known_word(h))),
-        Found::Nothing => Needed::Nowhere,
+    match lowest_change(width, care, value, decision, position) {
+        Found::At(h) => Ok(Some(Wire(known_word(h)))),
+        Found::Nothing => Ok(None),
     }
 }
