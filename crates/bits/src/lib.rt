@@ -5,6 +5,6 @@ mod bits;
 mod powers;
 mod zeros;
 
-pub use bits::{bit_at, is_single, ones, without};
+pub use bits::{and, bit_at, flip, is_single, ones, or, without, xor};
 pub use powers::{lowest, single, upper};
 pub use zeros::leading_zeros;

@@ -6,6 +6,7 @@ use Rattle.rules.specs.Rules.{answer}
 use Rattle.rules.specs.Lists.{except}
 use Rattle.rules.specs.Slices.{rules_of}
 use Rattle.rules.specs.declared.Refusal.{Refusal}
+use Rattle.rules.specs.declared.RuleList.{RuleList}
 use Rattle.rules.specs.declared.Wire.{Wire}
 use Rattle.rules.specs.Replies.{Reply, Gives, ◌then◌, reply}
 use Rattle.rules.specs.Calls.{check_list}
@@ -45,3 +46,7 @@ needed_reply r = reply header_values r
 -- What the call replies: the list's checks, then the lowest header.
 unfoldable pub needed_at : ℕ → (cares values decisions : List ℕ) → (k : ℕ) → Reply
 needed_at w cs vs ds k = check_list w 1 cs vs ds then Gives (halves_of (lowest_change w (rules_of cs vs ds) k))
+
+-- The same of a list as it is lent.
+abbrev pub needed_in : ℕ → RuleList → (k : ℕ) → Reply
+needed_in w x k = needed_at w x.care.now x.value.now x.decision.now k

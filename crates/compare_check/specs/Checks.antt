@@ -1,5 +1,6 @@
 -- The checks of a comparison in their order, with number and place (01, Refusal numbers; the defaults by request 04).
 use Rattle.std.specs.Prelude.{ℕ, ◌*◌, List, ◌&&◌, ltb, eqb, Option, Some, None}
+use Rattle.rules.specs.declared.RuleList.{RuleList}
 use Rattle.rules.specs.Rules.{no_match}
 use Rattle.rules.specs.Replies.{Reply, passed, need, ◌then◌}
 use Rattle.rules.specs.Checks.{width_check, list_check, header_check, room_check}
@@ -33,3 +34,9 @@ outcomes_check w oc ov od old nc nv nd new start a b c d =
     then default_check 1 old
     then default_check 2 new
     then portion_check w start a b c d
+
+-- The same of two lists as they are lent.
+abbrev pub outcomes_in : (w : ℕ) → (old : RuleList) → (old_default : Option ℕ) → (new : RuleList) → (new_default : Option ℕ)
+    → (start : ℕ) → (firsts lasts olds news : ℕ) → Reply
+outcomes_in w old od new nd start a b c d =
+    outcomes_check w old.care.now old.value.now old.decision.now od new.care.now new.value.now new.decision.now nd start a b c d

@@ -3,9 +3,9 @@ ghost use Rattle.std.specs.Prelude.{◌≡◌};
 ghost use Rattle.words.specs.Halves.{num};
 ghost use Rattle.rules.specs.Replies.{verdict_reply};
 ghost use Rattle.compare_check.specs.Outcomes.{miss_number};
-ghost use Rattle.compare_check.specs.Checks.{default_check, portion_check, outcomes_check};
+ghost use Rattle.compare_check.specs.Checks.{default_check, portion_check, outcomes_in};
 
-use rules::{Reason, Refusal, Wire, check_header, check_list_as, refused};
+use rules::{Reason, Refusal, RuleList, Wire, check_header, check_list_as, refused};
 use words::Word;
 
 // The number that a miss counts as: the default, or 65535 for no match where there is none.
@@ -52,13 +52,9 @@ fn check_portion(
 // old list and then of the new one, 5 of the old default and then of the new one, 6 of the start, 2 of the results, 7.
 pub fn check_comparison(
     width: u32,
-    old_care: &[u64],
-    old_value: &[u64],
-    old_decision: &[u16],
+    old: RuleList,
     old_default: Option<u16>,
-    new_care: &[u64],
-    new_value: &[u64],
-    new_decision: &[u16],
+    new: RuleList,
     new_default: Option<u16>,
     start: Wire,
     firsts: usize,
@@ -67,12 +63,10 @@ pub fn check_comparison(
     news: usize,
 ) -> Result<(), Refusal>
     ensures { verdict_reply result
-        ≡ outcomes_check width old_care.now old_value.now old_decision.now old_default
-        new_care.now new_value.now new_decision.now new_default
-        (num start.0) firsts lasts olds news }
+        ≡ outcomes_in width old.entry old_default new.entry new_default (num start.0) firsts lasts olds news }
 {
-    check_list_as(1, width, old_care, old_value, old_decision)?;
-    check_list_as(2, width, new_care, new_value, new_decision)?;
+    check_list_as(1, width, old)?;
+    check_list_as(2, width, new)?;
     check_default(1, old_default)?;
     check_default(2, new_default)?;
     check_portion(width, start.0, firsts, lasts, olds, news)
