@@ -6,8 +6,8 @@ use Rattle.weaving.proofs.checks.check_results.Goals.{then-cares-values-via-then
 
 pub returns-then-cares-values : goal.returns-then-cares-values
 returns-then-cares-values c = c.refused.ensures ∙ sym (elim c.then-cares-values.branch [
-  then-cares-values-via-then-cares-values w ↦ results-two-values _ _ _ _ w.if-cares-values.true |
-  then-cares-values-via-else-cares-values+then-cares-decisions w ↦ results-two-decisions _ _ _ _ w.if-cares-values.false w.if-cares-decisions.true
+  | then-cares-values-via-then-cares-values w ↦ results-two-values _ _ _ _ w.if-cares-values.true
+  | then-cares-values-via-else-cares-values+then-cares-decisions w ↦ results-two-decisions _ _ _ _ w.if-cares-values.false w.if-cares-decisions.true
 ])
 
 pub returns : goal.returns
