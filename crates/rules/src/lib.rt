@@ -22,6 +22,13 @@ pub struct Rule {
     pub decision: u16,
 }
 
+// The rule of zeros: what a cleared place holds.
+pub const BLANK: Rule = Rule {
+    care: Word { low: 0, high: 0 },
+    value: Word { low: 0, high: 0 },
+    decision: 0,
+};
+
 // A list of rules, as it is lent: three slices that belong together. A care or a value word is two numbers of its slice, the low half first,
 // and a rule has one decision. Where a list is written, its slices are lent one by one: a struct of them loses what a part of a slice holds.
 #[derive(Clone, Copy)]

@@ -1,5 +1,5 @@
 use Rattle.std.specs.declared.ops.Range.{Range}
-use Rattle.rules.specs.Slices.{rules_of}
+use Rattle.rules.specs.Slices.{rules_in}
 use mathlib.Core.Path.{◌≡◌, refl, sym, ap, ◌∙◌, subst}
 use Prim.Native.Nat.{ℕ}
 use native.Mathlib.Omega.{arith}
@@ -33,7 +33,7 @@ returns-then-mergeable c = let o = c.loop-j.invariant in
 pub loop-j-preserved : goal.loop-j-preserved
 loop-j-preserved c = let o = c.loop-j.invariant in
     let s = c.in-Some.ensures.steps in
-    let rs = rules_of c.args.care.now c.args.value.now c.args.decision.now in
+    let rs = rules_in c.args.rules in
     record {
       end = s.0 ∙ o.end;
       later = omega (arith, s.1.2, o.later);

@@ -12,7 +12,7 @@ use Rattle.weaving.proofs.merging.mergeable.Goals as goal
 
 pub returns-then-a-b : goal.returns-then-a-b
 unfolding mergeable
-returns-then-a-b c = c.is_single.ensures ∙ ap (λ (n : ℕ). eqb (set_bits n) 1) (holds c.xor.ensures) ∙ and-on (eq-eqb _ _ c.if-a-b.true.1) ∙ and-on (sym c.same.ensures ∙ c.if-a-b.true.0)
+returns-then-a-b c = c.is_single.ensures ∙ ap (λ (n : ℕ). eqb (set_bits n) 1) (holds c.bitxor.ensures) ∙ and-on (eq-eqb _ _ c.if-a-b.true.1) ∙ and-on (sym c.eq.ensures ∙ c.if-a-b.true.0)
 
 pub returns-else-a-b : goal.returns-else-a-b
 unfolding mergeable
