@@ -7,11 +7,11 @@ use Rattle.words.specs.Halves.{num, halves}
 use Rattle.words.proofs.Tests.{eqb_yes}
 use Rattle.words.proofs.WordLaws.{holds}
 use Rattle.swaps.proofs.ReturnLaws.{Top, top, of_one, word_held, without-less, return-none, place_in, return-more, return-all}
-use Rattle.swaps.proofs.swaps.returned_word.Goals as goal
-use Rattle.swaps.proofs.swaps.returned_word.Goals.{After-leading_zeros-weight}
+use Rattle.swaps.proofs.swaps.Swap.returned_word.Goals as goal
+use Rattle.swaps.proofs.swaps.Swap.returned_word.Goals.{After-leading_zeros-weight}
 
 -- At each turn the highest bit that is left has been found.
-found : (c : After-leading_zeros-weight) → Top 128 c.args.width (num c.loop-left.left) c.leading_zeros-weight.result
+found : (c : After-leading_zeros-weight) → Top 128 c.args.self.now.width (num c.loop-left.left) c.leading_zeros-weight.result
 found c = top 128 _ _ c.requires.0 c.loop-left.invariant.1.rest c.is_zero.ensures (ap not c.loop-left-test.true) c.leading_zeros-weight.ensures
 
 pub loop-left-init : goal.loop-left-init
@@ -22,24 +22,14 @@ overflow_sub-weight c =
     let t = found (goal.at.overflow_sub-weight c).After-leading_zeros-weight in
     omega arith
 
-pub overflow_sub-place : goal.overflow_sub-place
-overflow_sub-place c =
-    let t = found (goal.at.overflow_sub-place c).After-leading_zeros-weight in
+pub overflow_sub-self-in-loop-left : goal.overflow_sub-self-in-loop-left
+overflow_sub-self-in-loop-left c =
+    let t = found (goal.at.overflow_sub-self-in-loop-left c).After-leading_zeros-weight in
     omega arith
 
-pub overflow_sub-place-in-loop-left : goal.overflow_sub-place-in-loop-left
-overflow_sub-place-in-loop-left c =
-    let t = found (goal.at.overflow_sub-place-in-loop-left c).After-leading_zeros-weight in
-    omega arith
-
-pub overflow_cast-place-in-loop-left : goal.overflow_cast-place-in-loop-left
-overflow_cast-place-in-loop-left c =
-    let t = found (goal.at.overflow_cast-place-in-loop-left c).After-leading_zeros-weight in
-    omega (arith, place_in _ _ _ c.requires.0 c.requires.1 _ t.inside)
-
-pub overflow_sub-width : goal.overflow_sub-width
-overflow_sub-width c =
-    let t = found (goal.at.overflow_sub-width c).After-leading_zeros-weight in
+pub overflow_sub-self-in-loop-left-2 : goal.overflow_sub-self-in-loop-left-2
+overflow_sub-self-in-loop-left-2 c =
+    let t = found (goal.at.overflow_sub-self-in-loop-left-2 c).After-leading_zeros-weight in
     omega (arith, place_in _ _ _ c.requires.0 c.requires.1 _ t.inside)
 
 pub loop-left-smaller : goal.loop-left-smaller
@@ -55,7 +45,7 @@ loop-left-preserved c =
     let o = of_one (bit_or (num l.out)) _ (omega arith) c.single.ensures c.or-out.ensures in
     let n = of_one (without (num l.left)) _ (omega arith) c.single-in-loop-left.ensures c.without-left.ensures in (
       word_held _ c.or-out.ensures,
-      rw (o, n) (return-more _ _ _ c.requires.0 c.requires.1 _ _ _ _ t.inside t.set l.invariant.1),
+      rw (o, n, c.from-place.ensures) (return-more _ _ _ c.requires.0 c.requires.1 _ _ _ _ t.inside t.set l.invariant.1),
     )
 
 pub returns : goal.returns
