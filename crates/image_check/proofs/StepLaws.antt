@@ -20,9 +20,9 @@ use Rattle.image_form.specs.Formats.{rule_size}
 use Rattle.image_form.specs.declared.Entry.{Entry}
 use Rattle.image_form.specs.Images.{rule_in, rules_in, entry_in, entries_in, lists_in, total, format_in, count_in, width_in, entries_of, lists_of}
 use Rattle.image_check.specs.Checks.{entry_check, entries_check, lists_check, contents_check, bodies_check}
-use Rattle.image_form.specs.Parts.{EntryRead, rule_from}
+use Rattle.image_form.specs.Parts.{rule_from}
 use Rattle.image_form.proofs.FormatLaws.{times-less}
-use Rattle.image_form.proofs.PartLaws.{entry-got, rule-got}
+use Rattle.image_form.proofs.PartLaws.{rule-got}
 use Rattle.image_check.proofs.HeadLaws.{entry-facts}
 
 less_one : (n : ℕ) → suc n - 1 ≡ n
@@ -66,7 +66,7 @@ module _ (fmt w l count from i : ℕ) (b : List ℕ) where
   unfolding rules_check rules_in
   rules-end h = ap (λ (k : ℕ). rules_check w l (i + 1) (rules_in fmt k (drop (from + rule_size fmt * i) b))) (let e : count - i ≡ 0 = omega arith in e)
 
--- ---- contents entry number k of `lists`, counted from 0, and those after it
+-- ---- contents entry number k of `lists`, counted from 0, which is `e`, and those after it
 
 module _ (b : List ℕ) (lists k : ℕ) where
   -- the entries from it on
@@ -76,12 +76,10 @@ module _ (b : List ℕ) (lists k : ℕ) where
   abbrev pub entries_after : List Entry
   entries_after = entries_in (lists - (k + 1)) (drop (4 + 8 * (k + 1)) b)
 
-  -- `e` is the entry that was read
-  module _ (room : 4 + 8 * lists ≤ length b) (lt : k < lists) (e : Entry) (r : EntryRead b (4 + 8 * k) e) where
+  module _ (lt : k < lists) (e : Entry) (is : e ≡ entry_in (drop (4 + 8 * k) b)) where
     pub entries-split : entries_left ≡ e ∷ entries_after
     unfolding entries_in
     entries-split =
-        let is : e ≡ entry_in (drop (4 + 8 * k) b) = entry-got (4 + 8 * k) b e r (omega arith) in
         let next : 4 + 8 * k + 8 ≡ 4 + 8 * (k + 1) = omega arith in
         ap (λ (n : ℕ). entries_in n (drop (4 + 8 * k) b)) (let one : lists - k ≡ suc (lists - (k + 1)) = omega arith in one)
         ∙ (λ j. sym is j ∷ entries_in (lists - (k + 1)) ((drop-drop 8 (4 + 8 * k) b ∙ ap (λ (n : ℕ). drop n b) next) j))
@@ -111,7 +109,7 @@ module _ (b : List ℕ) (lists k : ℕ) where
 
   -- where no entry is left
   module _ (h : lists ≤ k) where
-    entries-none : entries_left ≡ []
+    pub entries-none : entries_left ≡ []
     unfolding entries_in
     entries-none = ap (λ (n : ℕ). entries_in n (drop (4 + 8 * k) b)) (let e : lists - k ≡ 0 = omega arith in e)
 

@@ -3,6 +3,7 @@ use native.Mathlib.Omega.{arith}
 use Rattle.rules.proofs.ReplyLaws.{stop-up, then_next, need-yes, need-no}
 use borrow.Author.Tests.{eq-eqb, ne_eqb}
 use Rattle.image_form.proofs.FormatLaws.{layout-body}
+use Rattle.image_form.proofs.PartLaws.{entry-got}
 use Rattle.image_check.proofs.StepLaws.{entries-turn, entries-end, next_fits, contents-start}
 use Rattle.image_check.proofs.checks.contents.Goals as goal
 
@@ -13,7 +14,7 @@ pub returns-in_err-entry_verdict : goal.returns-in_err-entry_verdict
 returns-in_err-entry_verdict c = let o = c.loop-k in
     let e = c.entry_in-entry in
     stop-up _ _ _ _ _ c.from_residual.ensures.1 c.in_err-entry_verdict.ensures
-    ∙ sym (o.invariant.1 ∙ entries-turn _ _ o.k (omega arith) (omega arith) e.result e.ensures _ _ refl _ _ _)
+    ∙ sym (o.invariant.1 ∙ entries-turn _ _ o.k (omega arith) e.result (entry-got _ _ _ e.ensures (omega arith)) _ _ refl _ _ _)
 
 pub overflow_mul-next-in-loop-k : goal.overflow_mul-next-in-loop-k
 overflow_mul-next-in-loop-k c = omega (arith, layout-body _ _ c.layout-rule.ensures c.entry_in-entry.result.count, c.entry_in-entry.ensures.count)
@@ -26,7 +27,7 @@ loop-k-preserved c = let o = c.loop-k in
     let e = c.entry_in-entry in
     let s = layout-body _ _ c.layout-rule.ensures e.result.count in (
       omega (arith, s, next_fits _ _ _ _ _ _ c.in_ok-entry_verdict.ensures),
-      o.invariant.1 ∙ entries-turn _ _ o.k (omega arith) (omega arith) e.result e.ensures _ _ s.0 _ _ _ ∙ then_next _ _ (sym c.in_ok-entry_verdict.ensures),
+      o.invariant.1 ∙ entries-turn _ _ o.k (omega arith) e.result (entry-got _ _ _ e.ensures (omega arith)) _ _ s.0 _ _ _ ∙ then_next _ _ (sym c.in_ok-entry_verdict.ensures),
     )
 
 pub returns-then-next-b : goal.returns-then-next-b
