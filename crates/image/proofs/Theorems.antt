@@ -37,24 +37,21 @@ unfoldable pub rules_named : (id : ℕ) → List Named → List Rule
 rules_named id [] = []
 rules_named id (l ∷ ls) = pick_rules (eqb l.id id) l.rules (rules_named id ls)
 
-at_place : (fmt : ℕ) → List ℕ → Place → List Rule
-at_place fmt b p = rules_in fmt p.count (drop p.from b)
-
-picked : (fmt : ℕ) (t : Bool) (b : List ℕ) (x y : Place) → at_place fmt b (pick_place t x y) ≡ pick_rules t (at_place fmt b x) (at_place fmt b y)
+picked : (fmt : ℕ) (t : Bool) (b : List ℕ) (x y : Option Place) → rules_at fmt b (pick_place t x y) ≡ pick_rules t (rules_at fmt b x) (rules_at fmt b y)
 picked fmt true b x y = refl
 picked fmt false b x y = refl
 
-named_in : (fmt id next : ℕ) (es : List Entry) (b : List ℕ) → at_place fmt b (place_in fmt id next es) ≡ rules_named id (lists_in fmt es (drop next b))
-unfolding place_in rules_named lists_in rules_in at_place
+named_in : (fmt id next : ℕ) (es : List Entry) (b : List ℕ) → rules_at fmt b (place_in fmt id next es) ≡ rules_named id (lists_in fmt es (drop next b))
+unfolding place_in rules_named lists_in
 named_in fmt id next [] b = refl
 named_in fmt id next (e ∷ es) b =
-    picked fmt (eqb e.id id) b (place_at true next e.count) (place_in fmt id (next + rule_size fmt * e.count) es)
+    picked fmt (eqb e.id id) b (Some (place_at next e.count)) (place_in fmt id (next + rule_size fmt * e.count) es)
     ∙ ap (pick_rules (eqb e.id id) (rules_in fmt e.count (drop next b)))
     (named_in fmt id (next + rule_size fmt * e.count) es b ∙ ap (λ (s : List ℕ). rules_named id (lists_in fmt es s)) (sym (drop-drop (rule_size fmt * e.count) next b)))
 
 -- The rules that are read out for an id are those of the image's list with that id.
 pub list-named : (b : List ℕ) (id : ℕ) → list_with b id ≡ rules_named id (lists_of b)
-unfolding list_with place_of lists_of at_place
+unfolding list_with place_of lists_of
 list-named b id = named_in (format_in b) id (4 + 8 * count_in b) (entries_of b) b
 
 -- ---- the body and the reading out
