@@ -1,6 +1,6 @@
 // Reading a list of an image out into three slices.
 ghost use Rattle.std.specs.Prelude.{◌≡◌, ◌+◌, ◌*◌, ◌≤◌, length, drop};
-ghost use Rattle.rules.specs.Replies.{verdict_reply};
+ghost use Rattle.rules.specs.Replies.{verdict_reply, ◌then◌};
 ghost use Rattle.rules.specs.Checks.{lengths_check, room_check};
 ghost use Rattle.rules.specs.Slices.{Lent};
 ghost use Rattle.image_form.specs.Formats.{rule_size};
@@ -35,9 +35,11 @@ fn fill(
     }
 }
 
-// 2 where care and value have not two numbers to each decision.
-fn check_slices(care: &[u64], value: &[u64], decision: &[u16]) -> Result<(), Refusal>
-    ensures { verdict_reply result ≡ lengths_check care.now value.now decision.now }
+// The slices for so many rules: 2 where care and value have not two numbers to each decision, then 7 where there are fewer
+// decisions than rules.
+fn check_results(rules: usize, care: &[u64], value: &[u64], decision: &[u16]) -> Result<(), Refusal>
+    ensures { verdict_reply result
+        ≡ (lengths_check care.now value.now decision.now then room_check rules (length decision.now)) }
 {
     if care.len() != value.len() {
         return refused(Reason::Slices, 0, 0);
@@ -45,14 +47,7 @@ fn check_slices(care: &[u64], value: &[u64], decision: &[u16]) -> Result<(), Ref
     if care.len() != decision.len() * 2 {
         return refused(Reason::Slices, 0, 0);
     }
-    Ok(())
-}
-
-// 7 where there are fewer places than rules.
-fn check_room(rules: usize, places: usize) -> Result<(), Refusal>
-    ensures { verdict_reply result ≡ room_check rules places }
-{
-    if rules > places {
+    if rules > decision.len() {
         return refused(Reason::Room, 0, 0);
     }
     Ok(())
@@ -72,8 +67,7 @@ pub fn read(
         care.new value.new decision.new }
 {
     let p = found(image, id)?;
-    check_slices(care, value, decision)?;
-    check_room(p.count, decision.len())?;
+    check_results(p.count, care, value, decision)?;
     fill(image[0], image, p.from, p.count, care, value, decision);
     Ok(p.count)
 }
