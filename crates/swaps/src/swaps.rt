@@ -6,12 +6,13 @@ ghost use Rattle.words.specs.Halves.{num, halves};
 ghost use Rattle.rules.specs.Rule.{rule_of, held};
 ghost use Rattle.rules.specs.Checks.{widest};
 ghost use Rattle.rules.specs.Replies.{verdict_reply, looked_reply};
-ghost use Rattle.rules.specs.Calls.{looked_up};
+ghost use Rattle.rules.specs.Calls.{looked_in};
 ghost use Rattle.swaps.specs.Swaps.{moved, moved_rule, times, entry_good, good, inverse, composed};
 ghost use Rattle.swaps.specs.SwapCalls.{SwapGiven, places_check, check_swap, check_swap_rule, check_swap_header, check_swaps, inverted, joined};
 
 use rules::{
-    Hit, Reason, Refusal, Rule, Wire, check_header, check_rule, check_width, lookup_number, refused,
+    Hit, Reason, Refusal, Rule, RuleList, Wire, check_header, check_rule, check_width,
+    lookup_number, refused,
 };
 use words::Word;
 
@@ -93,7 +94,7 @@ impl Swap {
         requires { self.now.width ≤ widest }
         ensures { result ≡ halves (moved self.now.width self.now.places (num word)) }
     {
-        let mut out = words::wide(0);
+        let mut out = Word::from(0);
         for place in self.entries() {
             out = words::pushed(out, place_bit(self.width, word, u32::from(*place)));
         }
@@ -107,12 +108,12 @@ impl Swap {
         ensures { result
             ≡ halves (moved self.now.width (inverse widest self.now.width self.now.places) (num word)) }
     {
-        let mut out = words::wide(0);
+        let mut out = Word::from(0);
         let mut left = word;
         while !words::is_zero(left) {
             let weight = 127 - bits::leading_zeros(left);
             let place = u32::from(self.places[(self.width - 1 - weight) as usize]);
-            out = bits::or(out, bits::single(self.width - place));
+            out = out | bits::single(self.width - place);
             left = bits::without(left, bits::single(weight));
         }
         out
@@ -244,15 +245,9 @@ impl Swap {
 }
 
 // Looks a header in swapped order up by its number: no header in wire order is made of it.
-pub fn lookup_swapped(
-    width: u32,
-    care: &[u64],
-    value: &[u64],
-    decision: &[u16],
-    header: Swapped,
-) -> Result<Option<Hit>, Refusal>
+pub fn lookup_swapped(width: u32, rules: RuleList, header: Swapped) -> Result<Option<Hit>, Refusal>
     ensures { looked_reply result
-        ≡ looked_up width care.now value.now decision.now (num header.0) }
+        ≡ looked_in width rules.entry (num header.0) }
 {
-    lookup_number(width, care, value, decision, header.0)
+    lookup_number(width, rules, header.0)
 }

@@ -6,7 +6,7 @@ use Rattle.swaps.proofs.SwapSteps.{pushed-on, moved-is}
 use Rattle.swaps.proofs.swaps.Swap.moved_word.Goals as goal
 
 pub loop-place-init : goal.loop-place-init
-loop-place-init c = c.wide-out.ensures ∙ ap halves (sym (word-zero _))
+loop-place-init c = c.from-out.ensures ∙ ap halves (sym (word-zero _))
 
 pub loop-place-preserved : goal.loop-place-preserved
 loop-place-preserved c =

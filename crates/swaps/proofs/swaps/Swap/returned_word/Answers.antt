@@ -15,7 +15,7 @@ found : (c : After-leading_zeros-weight) → Top 128 c.args.self.now.width (num 
 found c = top 128 _ _ c.requires.0 c.loop-left.invariant.1.rest c.is_zero.ensures (ap not c.loop-left-test.true) c.leading_zeros-weight.ensures
 
 pub loop-left-init : goal.loop-left-init
-loop-left-init c = (word_held _ c.wide-out.ensures, rw (holds c.wide-out.ensures) (return-none _ _ _ c.requires.2))
+loop-left-init c = (word_held _ c.from-out.ensures, rw (holds c.from-out.ensures) (return-none _ _ _ c.requires.2))
 
 pub overflow_sub-weight : goal.overflow_sub-weight
 overflow_sub-weight c =
@@ -42,9 +42,9 @@ loop-left-preserved c =
     let t = found (goal.at.loop-left-preserved c).After-leading_zeros-weight in
     let l = c.loop-left in
     let h = place_in _ _ _ c.requires.0 c.requires.1 _ t.inside in
-    let o = of_one (bit_or (num l.out)) _ (omega arith) c.single.ensures c.or-out.ensures in
+    let o = of_one (bit_or (num l.out)) _ (omega arith) c.single.ensures c.bitor-out.ensures in
     let n = of_one (without (num l.left)) _ (omega arith) c.single-in-loop-left.ensures c.without-left.ensures in (
-      word_held _ c.or-out.ensures,
+      word_held _ c.bitor-out.ensures,
       rw (o, n, c.from-place.ensures) (return-more _ _ _ c.requires.0 c.requires.1 _ _ _ _ t.inside t.set l.invariant.1),
     )
 
