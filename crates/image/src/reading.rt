@@ -1,7 +1,5 @@
 // Reading a list of an image out into three slices.
 ghost use Rattle.std.specs.Prelude.{◌≡◌, ◌+◌, ◌*◌, ◌≤◌, length, drop};
-ghost use Rattle.rules.specs.Replies.{verdict_reply, ◌then◌};
-ghost use Rattle.rules.specs.Checks.{lengths_check, room_check};
 ghost use Rattle.rules.specs.Slices.{Lent};
 ghost use Rattle.image_form.specs.Formats.{rule_size};
 ghost use Rattle.image_form.specs.Images.{rules_in};
@@ -10,7 +8,7 @@ ghost use Rattle.image.specs.Filled.{Filled};
 
 use crate::places::found;
 use image_form::{layout, rule_in};
-use rules::{Reason, Refusal, put_rule, refused};
+use rules::{Refusal, RuleList, check_results, put_rule};
 
 // Puts the `count` rules from byte `from` on into three slices. Later places keep their contents.
 fn fill(
@@ -35,24 +33,6 @@ fn fill(
     }
 }
 
-// The slices for so many rules: 2 where care and value have not two numbers to each decision, then 7 where there are fewer
-// decisions than rules.
-fn check_results(rules: usize, care: &[u64], value: &[u64], decision: &[u16]) -> Result<(), Refusal>
-    ensures { verdict_reply result
-        ≡ (lengths_check care.now value.now decision.now then room_check rules (length decision.now)) }
-{
-    if care.len() != value.len() {
-        return refused(Reason::Slices, 0, 0);
-    }
-    if care.len() != decision.len() * 2 {
-        return refused(Reason::Slices, 0, 0);
-    }
-    if rules > decision.len() {
-        return refused(Reason::Room, 0, 0);
-    }
-    Ok(())
-}
-
 // Reads the list with that id out: the number of rules, and the rules in the three slices, which take two numbers to a rule for
 // care and for value, the low half first. The image's checks and 15, then 2 and 7.
 pub fn read(
@@ -67,7 +47,14 @@ pub fn read(
         care.new value.new decision.new }
 {
     let p = found(image, id)?;
-    check_results(p.count, care, value, decision)?;
+    check_results(
+        p.count,
+        RuleList {
+            care,
+            value,
+            decision,
+        },
+    )?;
     fill(image[0], image, p.from, p.count, care, value, decision);
     Ok(p.count)
 }

@@ -8,7 +8,10 @@ mod checks;
 mod lookups;
 mod slices;
 
-pub use checks::{check_header, check_list, check_list_as, check_rule, check_width, refused};
+pub use checks::{
+    check_header, check_list, check_list_as, check_results, check_room, check_rule, check_width,
+    refused,
+};
 pub use lookups::{lookup, lookup_number};
 pub use slices::{put_rule, rule_at};
 use words::Word;

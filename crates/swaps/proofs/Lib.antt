@@ -1,5 +1,4 @@
 -- The laws of bit-swaps, for this crate's proofs and for the crates above it.
-pub mod Passing
 pub mod WordLaws
 pub mod SwapLaws
 pub mod MoveLaws

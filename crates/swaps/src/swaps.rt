@@ -35,7 +35,7 @@ pub fn place_bit(width: u32, word: Word, place: u32) -> u64
 }
 
 // Two swaps: the first's 1 and 9, then the second's, then 9 where the widths differ.
-#[tactic(auto, using(crate::proofs::Passing::passing), unfolding(crate::specs::SwapCalls::check_swaps))]
+#[tactic(auto, using(rules::proofs::ReplyLaws::passing), unfolding(crate::specs::SwapCalls::check_swaps))]
 fn check_swaps(first: &Swap, second: &Swap) -> Result<(), Refusal>
     ensures { verdict_reply result ≡ check_swaps widest first.now second.now }
 {
@@ -156,7 +156,7 @@ impl Swap {
     }
 
     // This swap alone: 1, then 9.
-    #[tactic(auto, using(crate::proofs::Passing::passing, crate::proofs::SwapCallLaws::whole), unfolding(crate::specs::SwapCalls::check_swap))]
+    #[tactic(auto, using(rules::proofs::ReplyLaws::passing, crate::proofs::SwapCallLaws::whole), unfolding(crate::specs::SwapCalls::check_swap))]
     fn check(&self) -> Result<(), Refusal>
         ensures { verdict_reply result ≡ check_swap widest self.now }
     {
@@ -165,7 +165,7 @@ impl Swap {
     }
 
     // This swap and a rule: 1, then 4 and 5 of the rule, then 9.
-    #[tactic(auto, using(crate::proofs::Passing::passing, crate::proofs::SwapCallLaws::whole), unfolding(crate::specs::SwapCalls::check_swap_rule))]
+    #[tactic(auto, using(rules::proofs::ReplyLaws::passing, crate::proofs::SwapCallLaws::whole), unfolding(crate::specs::SwapCalls::check_swap_rule))]
     fn check_with_rule(&self, rule: Rule) -> Result<(), Refusal>
         ensures { verdict_reply result ≡ check_swap_rule widest self.now (rule_of rule) }
     {
@@ -174,7 +174,7 @@ impl Swap {
     }
 
     // This swap and a header: 1, then 6, then 9.
-    #[tactic(auto, using(crate::proofs::Passing::passing, crate::proofs::SwapCallLaws::whole), unfolding(crate::specs::SwapCalls::check_swap_header))]
+    #[tactic(auto, using(rules::proofs::ReplyLaws::passing, crate::proofs::SwapCallLaws::whole), unfolding(crate::specs::SwapCalls::check_swap_header))]
     fn check_with_header(&self, header: Word) -> Result<(), Refusal>
         ensures { verdict_reply result ≡ check_swap_header widest self.now (num header) }
     {
