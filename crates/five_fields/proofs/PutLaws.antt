@@ -20,7 +20,7 @@ use Rattle.five_numbers.specs.Fields.{port_bits}
 use Rattle.five_fields.specs.Slices.{Slices, rows, rule_at, rules_from, rules_in}
 use Rattle.five_fields.specs.Expansion.{entry, source_prefixes, destination_prefixes, expansion, expanded}
 use Rattle.five_fields.specs.Inner.{entry_by, entries_inside, entries_by, Put, PortWords}
-use Rattle.five_fields.proofs.ListLaws.{sets-append, rules-all, rules-next, rules-none}
+use Rattle.five_fields.proofs.ListLaws.{sets-append, rules-next, rules-none}
 use Rattle.five_fields.proofs.CountLaws.{expansion-count, left-count}
 
 -- ---- putting, step by step
@@ -29,10 +29,6 @@ use Rattle.five_fields.proofs.CountLaws.{expansion-count, left-count}
 pub record Putting (from : ℕ) (all : List Rule) (c₀ v₀ d₀ : List ℕ) (at : ℕ) (rest : List Rule) (c v d : List ℕ) : Type 0 where
   pub kept : Kept c₀ v₀ d₀ c v d
   pub rules : sets (rules_of c v d) at rest ≡ sets (rules_of c₀ v₀ d₀) from all
-
-pub putting-all : (from : ℕ) (all : List Rule) (c v d : List ℕ) (at : ℕ) (rest : List Rule) → at ≡ from → rest ≡ all → Putting from all c v d at rest c v d
-putting-all from all c v d at rest e f =
-    record { kept = record { cares = refl; values = refl; decisions = refl }; rules = ap₂ (sets (rules_of c v d)) e f }
 
 module _ (from : ℕ) (all : List Rule) (c₀ v₀ d₀ : List ℕ) (at : ℕ) where
   pub putting-none : (rest : List Rule) (c v d : List ℕ) → rest ≡ [] → Putting from all c₀ v₀ d₀ at rest c v d → Put from all c₀ v₀ d₀ c v d
@@ -161,11 +157,6 @@ rules-done s i h = ap expanded (rules-none s i (rows s) h)
 pub record Expanding (s : Slices) (c₀ v₀ d₀ : List ℕ) (i at : ℕ) (c v d : List ℕ) : Type 0 where
   pub count : at + length (expanded (rules_from s i (rows s - i))) ≡ length (expanded (rules_in s))
   pub put : Putting 0 (expanded (rules_in s)) c₀ v₀ d₀ at (expanded (rules_from s i (rows s - i))) c v d
-
-pub expanding-none : (s : Slices) (c v d : List ℕ) → Expanding s c v d 0 0 c v d
-expanding-none s c v d =
-    let e : expanded (rules_from s 0 (rows s - 0)) ≡ expanded (rules_in s) = ap expanded (rules-all s) in
-    record { count = omega (arith, ap length e); put = putting-all 0 _ c v d 0 _ refl e }
 
 module _ (s : Slices) (c₀ v₀ d₀ : List ℕ) (i at : ℕ) (c v d : List ℕ) (x : Expanding s c₀ v₀ d₀ i at c v d) where
   -- the next rule has its room among all entries

@@ -17,6 +17,7 @@ use rules::{Rule, put_rule};
 use words::Word;
 
 // Five numbers of their fields as one word: they stand side by side as in a header.
+#[tactic(auto, using(crate::proofs::EntryLaws::header_answered))]
 fn joined(numbers: Numbers) -> Word
     requires { in_fields (five_of numbers) ≡ true }
     ensures { result ≡ halves (header_of (five_of numbers)) }
