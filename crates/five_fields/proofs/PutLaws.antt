@@ -159,14 +159,13 @@ rules-done s i h = ap expanded (rules-none s i (rows s) h)
 
 -- The entries of the rules before position i are put, up to place `at`.
 pub record Expanding (s : Slices) (c₀ v₀ d₀ : List ℕ) (i at : ℕ) (c v d : List ℕ) : Type 0 where
-  pub inside : i ≤ rows s
   pub count : at + length (expanded (rules_from s i (rows s - i))) ≡ length (expanded (rules_in s))
   pub put : Putting 0 (expanded (rules_in s)) c₀ v₀ d₀ at (expanded (rules_from s i (rows s - i))) c v d
 
 pub expanding-none : (s : Slices) (c v d : List ℕ) → Expanding s c v d 0 0 c v d
 expanding-none s c v d =
     let e : expanded (rules_from s 0 (rows s - 0)) ≡ expanded (rules_in s) = ap expanded (rules-all s) in
-    record { inside = omega arith; count = omega (arith, ap length e); put = putting-all 0 _ c v d 0 _ refl e }
+    record { count = omega (arith, ap length e); put = putting-all 0 _ c v d 0 _ refl e }
 
 module _ (s : Slices) (c₀ v₀ d₀ : List ℕ) (i at : ℕ) (c v d : List ℕ) (x : Expanding s c₀ v₀ d₀ i at c v d) where
   -- the next rule has its room among all entries
@@ -179,7 +178,6 @@ module _ (s : Slices) (c₀ v₀ d₀ : List ℕ) (i at : ℕ) (c v d : List ℕ
   expanding-next h r e n f c' v' d' p =
       let g : length (expansion r) ≡ length (expansion (rule_at s i)) = ap (λ (y : FiveFieldRule). length (expansion y)) e in
       record {
-        inside = omega arith;
         count = omega (arith, x.count, left-count s i (rows s) h, f, g);
         put = putting-some 0 _ c₀ v₀ d₀ at _ (expansion r) _ c v d c' v' d' (rules-left s i h ∙ ap (λ (y : FiveFieldRule). expansion y ++ expanded (rules_from s (i + 1) (rows s - (i + 1)))) (sym e)) x.put p _ (omega (arith, f));
       }

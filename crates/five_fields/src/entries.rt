@@ -12,8 +12,7 @@ ghost use Rattle.five_fields.specs.Expansion.{protocol_prefix};
 ghost use Rattle.five_fields.specs.Inner.{Bounded, entry_by, entries_inside, entries_by, Put};
 
 use crate::FiveFieldRule;
-use crate::checks::power;
-use five_numbers::{Built, Numbers, header};
+use five_numbers::{Numbers, header};
 use rules::{Rule, put_rule};
 use words::Word;
 
@@ -22,10 +21,7 @@ fn joined(numbers: Numbers) -> Word
     requires { in_fields (five_of numbers) ≡ true }
     ensures { result ≡ halves (header_of (five_of numbers)) }
 {
-    match header(numbers) {
-        Built::Header(h) => h.0,
-        Built::Refused(_) => Word { low: 0, high: 0 },
-    }
+    header(numbers).unwrap().0
 }
 
 // The care word of an address of which so many first bits count.
@@ -33,10 +29,11 @@ fn address_care(length: u32) -> u32
     requires { length ≤ address_bits }
     ensures { result ≡ 2 ^ address_bits - 2 ^ (address_bits - length) }
 {
-    (4294967296 - power(32 - length)) as u32
+    (4294967296 - 2u64.pow(32 - length)) as u32
 }
 
 // The care word of a protocol: none of its places for any, else all.
+#[tactic(auto, unfolding(ranges::specs::Prefixes::care_word))]
 fn protocol_care(protocol: u32) -> u32
     requires { protocol ≤ any_protocol }
     ensures { result ≡ care_word protocol_bits (protocol_prefix protocol) }
@@ -72,15 +69,15 @@ fn entry(
     let care = joined(Numbers {
         source: address_care(rule.source_length),
         destination: address_care(rule.destination_length),
-        source_port: source_care as u32,
-        destination_port: destination_care as u32,
+        source_port: u32::from(source_care),
+        destination_port: u32::from(destination_care),
         protocol: protocol_care(rule.protocol),
     });
     let value = joined(Numbers {
         source: rule.source,
         destination: rule.destination,
-        source_port: source_value as u32,
-        destination_port: destination_value as u32,
+        source_port: u32::from(source_value),
+        destination_port: u32::from(destination_value),
         protocol: protocol_value(rule.protocol),
     });
     Rule {
@@ -109,11 +106,9 @@ fn put_inside(
         care.old value.old decision.old
         care.new value.new decision.new }
 {
-    let mut j: usize = 0;
-    while j < n {
+    for j in 0..n {
         let e = entry(rule, source_care, source_value, cares[j], values[j]);
         put_rule(care, value, decision, at + j, e);
-        j += 1;
     }
 }
 
@@ -140,8 +135,7 @@ pub(crate) fn put_pairs(
         care.old value.old decision.old
         care.new value.new decision.new }
 {
-    let mut i: usize = 0;
-    while i < m {
+    for i in 0..m {
         put_inside(
             rule,
             source_cares[i],
@@ -154,6 +148,5 @@ pub(crate) fn put_pairs(
             value,
             decision,
         );
-        i += 1;
     }
 }

@@ -12,22 +12,19 @@ ghost use Rattle.five_fields.specs.Expansion.{expansion, expanded};
 ghost use Rattle.five_fields.specs.Calls.{rules_check, ExpandDone};
 ghost use Rattle.five_fields.specs.Inner.{Put, PortWords};
 
+use crate::FiveFieldRule;
 use crate::checks::rule_at;
 use crate::counts::expansion_count;
 use crate::entries::put_pairs;
-use crate::{Expanded, FiveFieldRule};
-use ranges::{Covered, range_prefixes};
-use rules::{Verdict, refused};
+use ranges::range_prefixes;
+use rules::{Reason, Refusal, refused};
 
 // Puts the words of the prefixes of a range of ports into two slices, and returns how many they are. No range takes more than 30.
 fn put_ports(low: u32, high: u32, cares: &mut [u16], values: &mut [u16]) -> usize
     requires { (is_range port_bits low high ≡ true) × (30 ≤ length cares.old) × (length cares.old ≡ length values.old) }
     ensures { PortWords low high result cares.new values.new }
 {
-    match range_prefixes(16, low, high, cares, values) {
-        Covered::Prefixes(n) => n,
-        Covered::Refused(_) => 0,
-    }
+    range_prefixes(16, low, high, cares, values).unwrap()
 }
 
 // Puts the entries of a rule from place `at` on, and returns how many they are.
@@ -102,8 +99,7 @@ fn put_all(
         out_care.new out_value.new out_decision.new }
 {
     let mut at: usize = 0;
-    let mut i: usize = 0;
-    while i < decision.len() {
+    for i in 0..decision.len() {
         let rule = rule_at(
             source,
             source_length,
@@ -118,29 +114,30 @@ fn put_all(
             i,
         );
         at += put_expansion(rule, at, out_care, out_value, out_decision);
-        i += 1;
     }
 }
 
 // What can be wrong with the lengths of three result slices for n entries: 2, then 7.
-fn results_verdict(n: usize, cares: usize, values: usize, decisions: usize) -> Verdict
+#[tactic(auto, unfolding(rules::specs::Checks::room_check))]
+fn results_verdict(n: usize, cares: usize, values: usize, decisions: usize) -> Result<(), Refusal>
     requires { decisions * 2 < 2 ^ 64 }
     ensures { verdict_reply result ≡ (need (eqb cares values && eqb cares (decisions * 2)) 2 0 0 then room_check n decisions) }
 {
     if cares != values {
-        return refused(2, 0, 0);
+        return refused(Reason::Slices, 0, 0);
     }
     if cares != decisions * 2 {
-        return refused(2, 0, 0);
+        return refused(Reason::Slices, 0, 0);
     }
     if decisions < n {
-        return refused(7, 0, 0);
+        return refused(Reason::Room, 0, 0);
     }
-    Verdict::Fine
+    Ok(())
 }
 
 // The ternary list of five-field rules, in the last three slices: 2 and 3, the rules one by one, 3 for more than 1,024 entries, then 2 and
 // 7 of the result slices; else how many entries it has.
+#[tactic(auto, unfolding(crate::specs::Calls::expand_reply, crate::specs::Calls::expand_check, crate::specs::Calls::count_reply, rules::specs::Checks::lengths_check))]
 pub fn expand(
     source: &[u32],
     source_length: &[u32],
@@ -155,13 +152,13 @@ pub fn expand(
     out_care: &mut [u64],
     out_value: &mut [u64],
     out_decision: &mut [u16],
-) -> Expanded
+) -> Result<usize, Refusal>
     ensures { ExpandDone (slices source.now source_length.now destination.now destination_length.now
         source_low.now source_high.now destination_low.now destination_high.now protocol.now decision.now)
         out_care.old out_value.old out_decision.old
         out_care.new out_value.new out_decision.new result }
 {
-    let counted = expansion_count(
+    let n = expansion_count(
         source,
         source_length,
         destination,
@@ -172,14 +169,8 @@ pub fn expand(
         destination_high,
         protocol,
         decision,
-    );
-    let Expanded::Entries(n) = counted else {
-        return counted;
-    };
-    let v = results_verdict(n, out_care.len(), out_value.len(), out_decision.len());
-    if let Verdict::Refused(x) = v {
-        return Expanded::Refused(x);
-    }
+    )?;
+    results_verdict(n, out_care.len(), out_value.len(), out_decision.len())?;
     put_all(
         source,
         source_length,
@@ -195,5 +186,5 @@ pub fn expand(
         out_value,
         out_decision,
     );
-    Expanded::Entries(n)
+    Ok(n)
 }

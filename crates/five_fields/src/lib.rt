@@ -8,7 +8,6 @@ mod expansions;
 
 pub use counts::expansion_count;
 pub use expansions::expand;
-use rules::Refusal;
 
 // A rule over five fields: a prefix of the source address and one of the destination address, each an address and how many of its first
 // bits count; a range of source ports and one of destination ports; a protocol, or 256 for any; and the decision.
@@ -24,11 +23,4 @@ pub struct FiveFieldRule {
     pub destination_high: u32,
     pub protocol: u32,
     pub decision: u16,
-}
-
-// How many entries a list of five-field rules becomes.
-#[derive(Clone, Copy)]
-pub enum Expanded {
-    Entries(usize),
-    Refused(Refusal),
 }

@@ -48,6 +48,7 @@ fn fields_verdict(numbers: Numbers) -> Result<(), Refusal>
 }
 
 // The header of five numbers: 6 where one of them is outside its field.
+#[tactic(auto, unfolding(crate::specs::Calls::header_reply))]
 pub fn header(numbers: Numbers) -> Result<Wire, Refusal>
     ensures reply { built_reply result ≡ header_reply (five_of numbers) }
     ensures word { IfOk result (λ h. h.0 ≡ halves (header_of (five_of numbers))) }

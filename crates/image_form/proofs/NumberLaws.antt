@@ -1,7 +1,7 @@
 -- Numbers from bytes: the library's number of 8 bytes is the number that they stand for, and a word and a rule are made of such numbers.
 use mathlib.Core.Path.{◌≡◌, sym, ap, ap₂, ◌∙◌}
 use mathlib.Core.List.{List, [], ◌∷◌, ◌++◌}
-use Prim.Native.Nat.{ℕ, zero, suc, ◌+◌, ◌*◌, ◌^◌, ◌≤◌, ◌<◌}
+use Prim.Native.Nat.{ℕ, zero, suc, ◌+◌, ◌-◌, ◌*◌, ◌^◌, ◌≤◌, ◌<◌}
 use native.Mathlib.Nat.{pow-suc}
 use native.Mathlib.Omega.{arith}
 use lib.ListN.{length, get_or, take, drop, length-drop, length-append, take-append-drop}
@@ -14,6 +14,7 @@ use Rattle.words.specs.Halves.{word, halves}
 use Rattle.words.proofs.WordLaws.{made}
 use Rattle.rules.specs.declared.Rule.{Rule as Held}
 use Rattle.rules.specs.Rule.{held}
+use Rattle.rules.specs.Rules.{rule}
 use Rattle.image_form.specs.Bytes.{le, number_in, part}
 use Rattle.image_form.specs.Formats.{word_bytes, rule_size}
 use Rattle.image_form.specs.Images.{rule_in}
@@ -69,9 +70,17 @@ halves-split s low high h p small q =
     (ap le (sym (take-append-drop 8 s)) ∙ le-append (take 8 s) (drop 8 s)
     ∙ ap₂ (λ (x y : ℕ). x * 256 ^ length (take 8 s) + y) (sym q) (sym p) ∙ ap (λ (k : ℕ). high * 256 ^ k + low) (length-take-le 8 s h) ∙ omega arith)
 
--- what stands in the first bytes is what stands in all of them
-pub num-within : (n p k : ℕ) (s : List ℕ) → n ≤ k → number_in n p (take (p + k) s) ≡ number_in n p s
-num-within n p k s h = ap (λ (l : List ℕ). le (take n l)) (drop-take p k s) ∙ ap le (take-take n k (drop p s) h)
+-- what stands in the first bytes is what stands in all of them: a number, and a rule
+pub num-within : (n p m : ℕ) (s : List ℕ) → p + n ≤ m → number_in n p (take m s) ≡ number_in n p s
+num-within n p m s h =
+    ap (λ (k : ℕ). number_in n p (take k s)) (let e : m ≡ p + (m - p) = omega arith in e) ∙ ap (λ (l : List ℕ). le (take n l)) (drop-take p (m - p) s)
+    ∙ ap le (take-take n (m - p) (drop p s) (omega arith))
+
+pub rule-within : (fmt m : ℕ) (s : List ℕ) → rule_size fmt ≤ m → rule_in fmt (take m s) ≡ rule_in fmt s
+rule-within fmt m s h =
+    let w : ℕ = word_bytes fmt in
+    let e = rule-words fmt in
+    λ j. rule (num-within w 0 m s (omega arith) j) (num-within w w m s (omega arith) j) (num-within 2 (w + w) m s (omega arith) j)
 
 -- a rule from the bytes of its two words and of its decision
 module _ (fmt size : ℕ) (s : List ℕ) (e : size ≡ word_bytes fmt) (all : length s ≡ rule_size fmt) where

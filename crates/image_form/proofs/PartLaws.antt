@@ -1,10 +1,10 @@
 -- An entry or a rule at a place of the bytes, where there are enough bytes for it and where there are not.
-use mathlib.Core.Path.{◌≡◌, refl, sym, ap, ◌∙◌}
+use mathlib.Core.Path.{◌≡◌, sym, ap, ◌∙◌}
 use mathlib.Core.Bool.{Bool}
 use mathlib.Core.List.{List}
-use Prim.Native.Nat.{ℕ, ◌+◌, ◌-◌, ◌^◌, ◌≤◌, ◌<◌}
+use Prim.Native.Nat.{ℕ, ◌+◌, ◌^◌, ◌≤◌, ◌<◌}
 use native.Mathlib.Omega.{arith}
-use lib.ListN.{length, take, drop}
+use lib.ListN.{length, drop}
 use borrow.Author.Tests.{le-leb, lt-leb}
 use Rattle.words.specs.Halves.{word}
 use Rattle.words.specs.declared.Word.{Word}
@@ -13,13 +13,11 @@ use Rattle.rules.specs.declared.Rule.{Rule as Held}
 use Rattle.rules.specs.Rule.{held}
 use Rattle.rules.specs.Slices.{blank}
 use Rattle.image_form.specs.declared.Entry.{Entry}
-use Rattle.rules.specs.Rules.{rule}
 use Rattle.image_form.specs.Bytes.{number_in, part}
-use Rattle.image_form.specs.Formats.{word_bytes, rule_size}
+use Rattle.image_form.specs.Formats.{rule_size}
 use Rattle.image_form.specs.Images.{entry_with, entry_in, rule_in}
 use Rattle.image_form.specs.Parts.{pick_entry, pick_rule, entry_from, rule_from, EntryRead}
-use Rattle.image_form.proofs.FormatLaws.{rule-words}
-use Rattle.image_form.proofs.NumberLaws.{length_part, num-within}
+use Rattle.image_form.proofs.NumberLaws.{length_part, num-within, rule-within}
 
 module _ (p : ℕ) (s : List ℕ) where
   pub entry-there : p + 8 ≤ length s → entry_from p s ≡ entry_in (drop p s)
@@ -44,18 +42,17 @@ module _ (p : ℕ) (s : List ℕ) where
     whole : length t ≡ 8
     whole = ap length e ∙ length_part 8 p s h
 
+    here : (n q : ℕ) → q + n ≤ 8 → number_in n q t ≡ number_in n q (drop p s)
+    here n q f = ap (number_in n q) e ∙ num-within n q 8 (drop p s) f
+
     pub entry-made : (o n i : ℕ) → (o ≡ number_in 4 0 t) × (o < 256 ^ length (part 4 0 t)) → (n ≡ number_in 2 4 t) × (n < 256 ^ length (part 2 4 t))
         → (i ≡ number_in 2 6 t) × (i < 256 ^ length (part 2 6 t)) → EntryRead s p (entry_with o n i)
     entry-made o n i x y z = record {
-      is = (λ j. entry_with ((x.0 ∙ within 4 0 refl (omega arith)) j) ((y.0 ∙ within 2 4 refl (omega arith)) j) ((z.0 ∙ within 2 6 refl (omega arith)) j))
-          ∙ sym (entry-there h);
+      is = (λ j. entry_with ((x.0 ∙ here 4 0 (omega arith)) j) ((y.0 ∙ here 2 4 (omega arith)) j) ((z.0 ∙ here 2 6 (omega arith)) j)) ∙ sym (entry-there h);
       offset = rw (length_part 4 0 t (omega (arith, whole))) at x.1;
       count = rw (length_part 2 4 t (omega (arith, whole))) at y.1;
       id = rw (length_part 2 6 t (omega (arith, whole))) at z.1;
     }
-      where
-        within : (n q : ℕ) → q + (8 - q) ≡ 8 → n ≤ 8 - q → number_in n q t ≡ number_in n q (drop p s)
-        within n q f k = ap (number_in n q) (e ∙ ap (λ (m : ℕ). take m (drop p s)) (sym f)) ∙ num-within n q (8 - q) (drop p s) k
 
   -- an entry that was read where there are 8 bytes is the one in them
   pub entry-got : (e : Entry) → EntryRead s p e → p + 8 ≤ length s → e ≡ entry_in (drop p s)
@@ -73,13 +70,7 @@ module _ (p : ℕ) (s : List ℕ) where
     -- the rule in as many bytes as it takes is the one in those from byte p on
     pub rule-made : (t : List ℕ) (r : Held) (size : ℕ) → size ≡ rule_size f → p + size ≤ length s → t ≡ part size p s → r ≡ held (rule_in f t) → r ≡ held (rule_from f p s)
     rule-made t r size e h q x =
-        let w : ℕ = word_bytes f in
-        let all : t ≡ take (rule_size f) (drop p s) = q ∙ ap (λ (k : ℕ). part k p s) e in
-        let same : (n k m : ℕ) → rule_size f ≡ k + m → n ≤ m → number_in n k t ≡ number_in n k (drop p s) =
-        λ n k m g l. ap (number_in n k) (all ∙ ap (λ (j : ℕ). take j (drop p s)) g) ∙ num-within n k m (drop p s) l in
-        x ∙ ap held
-        ((λ j. rule (same w 0 (rule_size f) (omega arith) (omega (arith, rule-words f)) j) (same w w (w + 2) (omega (arith, rule-words f)) (omega arith) j) (same 2 (w + w) 2 (omega (arith, rule-words f)) (omega arith) j))
-        ∙ sym (rule-there (omega arith)))
+        x ∙ ap held (ap (rule_in f) q ∙ rule-within f size (drop p s) (omega arith) ∙ sym (rule-there (omega arith)))
 
     -- a rule that was read where there are bytes for it is the one in them
     pub rule-got : (r : Held) → r ≡ held (rule_from f p s) → p + rule_size f ≤ length s → r ≡ held (rule_in f (drop p s))

@@ -8,8 +8,8 @@ use native.Mathlib.Nat.{pow-suc, mod-eq_of_lt}
 use lib.Dec.{eqb, leb, ltb}
 use lib.Pow.{pow_pos, pow_mono, pow-lt}
 use lib.ListN.{length}
-use borrow.Author.Tests.{le-leb, leb-true, leb-false, ltb-true, ltb-false, eq-eqb, ne_eqb}
-use Rattle.words.proofs.Tests.{split as by, true-and, and-true, and-on, and-off, true-false, never_true, eqb_yes, yes_eqb}
+use borrow.Author.Tests.{le-leb, leb-true, leb-false, ltb-true, ltb-false}
+use Rattle.words.proofs.Tests.{split as by, true-and, and-true, true-false, never_true, eqb_yes, yes_eqb}
 use Rattle.ranges.specs.Prefixes.{Prefix, prefix}
 use Rattle.ranges.specs.Ranges.{shifted, covering}
 use Rattle.ranges.specs.Inner.{opens, Widest}
@@ -34,17 +34,6 @@ opens-facts at end k e = let t = and-true (eqb (at % 2 ^ k) 0) (leb (at + 2 ^ k)
 pub facts-opens : (at end k : ℕ) → at % 2 ^ k ≡ 0 → at + 2 ^ k ≤ end → opens at end k ≡ true
 unfolding opens
 facts-opens at end k e h = true-and (yes_eqb _ _ e) (le-leb _ _ h)
-
--- the two tests in the code, of a size that is 2^k
-pub open-ends : (at end k s : ℕ) → s ≡ 2 ^ k → at % s ≡ 0 → leb (at + s) end ≡ opens at end k
-unfolding opens
-open-ends at end k s e h = ap (λ (x : ℕ). leb (at + x) end) e ∙ and-on (eq-eqb _ _ (ap (λ (x : ℕ). at % x) (sym e) ∙ h))
-
-pub open-between : (at end k s : ℕ) → s ≡ 2 ^ k → (at % s ≡ 0 → ⊥) → eqb (at % s) 0 ≡ opens at end k
-unfolding opens
-open-between at end k s e h =
-    let n : eqb (at % 2 ^ k) 0 ≡ false = ne_eqb _ _ (λ z. h (ap (λ (x : ℕ). at % x) e ∙ z)) in
-    ne_eqb _ _ h ∙ and-off _ n
 
 pub widest-greatest : (low end k : ℕ) → Widest low end k → Greatest low end k
 widest-greatest low end k w =

@@ -8,6 +8,7 @@ ghost use Rattle.ranges.specs.Inner.{opens, Widest, PrefixesPut};
 use rules::{Reason, Refusal, refused};
 
 // Checks a range: 1 where the field has not 1 to 16 bits, then 20 where low is above high or high outside the field.
+#[tactic(auto, unfolding(crate::specs::Calls::check_range, crate::specs::Calls::field_check, crate::specs::Calls::bounds_check))]
 fn range_verdict(bits: u32, low: u32, high: u32) -> Result<(), Refusal>
     ensures { verdict_reply result ≡ check_range bits low high }
 {
@@ -27,6 +28,7 @@ fn range_verdict(bits: u32, low: u32, high: u32) -> Result<(), Refusal>
 }
 
 // Whether a prefix of so many stars can start at a number and stay below the end.
+#[tactic(auto, unfolding(crate::specs::Inner::opens))]
 fn can_open(at: u32, end: u32, stars: u32) -> bool
     requires { (at < end) × (end ≤ 2 ^ widest_field) × (stars ≤ widest_field) }
     ensures { result ≡ opens at end stars }
@@ -84,6 +86,7 @@ fn put_below(bits: u32, low: u32, end: u32, care: &mut [u16], value: &mut [u16])
 }
 
 // How many prefixes the range from low to high takes: 1, then 20; else the number.
+#[tactic(auto, using(crate::proofs::CallLaws::range_end), unfolding(crate::specs::Calls::prefix_count_reply))]
 pub fn range_prefix_count(bits: u32, low: u32, high: u32) -> Result<usize, Refusal>
     ensures { number_reply result ≡ prefix_count_reply bits low high }
 {
@@ -92,6 +95,7 @@ pub fn range_prefix_count(bits: u32, low: u32, high: u32) -> Result<usize, Refus
 }
 
 // What can be wrong with a range and two result slices: 1, then 20, then 2, then 7 where there is not a place for each prefix.
+#[tactic(auto, using(crate::proofs::CallLaws::range_end), unfolding(crate::specs::Calls::prefixes_check, crate::specs::Calls::same_length_check, rules::specs::Checks::room_check))]
 fn prefixes_verdict(
     bits: u32,
     low: u32,
@@ -113,6 +117,7 @@ fn prefixes_verdict(
 
 // The prefixes of the range from low to high, rising and as few as there can be: their care words in `care`, their value words in `value`.
 // 1 and 20, then 2 and 7 of the two slices; else how many they are.
+#[tactic(auto, using(crate::proofs::CallLaws::prefixes_end), unfolding(crate::specs::Calls::prefixes_reply))]
 pub fn range_prefixes(
     bits: u32,
     low: u32,

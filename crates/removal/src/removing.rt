@@ -3,18 +3,17 @@ ghost use Rattle.std.specs.Prelude.{◌≡◌, ◌≤◌, ◌<◌, length};
 ghost use Rattle.rules.specs.Slices.{rules_of, Lent};
 ghost use Rattle.removal.specs.Removal.{Shifted, removable as removable_of, Removed};
 
-use rules::{Rule, put_rule, rule_at};
-use words::Word;
+use rules::{BLANK, RuleList, put_rule, rule_at};
 
 // Whether rule i can be taken out of the first `count` rules.
 #[tactic(auto, unfolding(crate::specs::Removal::removable))]
-fn removable(care: &[u64], value: &[u64], decision: &[u16], i: usize, count: usize) -> bool
-    ensures { result ≡ removable_of care.now value.now decision.now i count }
+fn removable(rules: RuleList, i: usize, count: usize) -> bool
+    ensures { result ≡ removable_of rules.entry.care.now rules.entry.value.now rules.entry.decision.now i count }
 {
-    care.len() == value.len()
-        && care.len() == decision.len() * 2
+    rules.care.len() == rules.value.len()
+        && rules.care.len() == rules.decision.len() * 2
         && i < count
-        && count <= decision.len()
+        && count <= rules.decision.len()
 }
 
 // Moves the rules after rule i, up to rule `last`, down by one.
@@ -25,7 +24,14 @@ fn move_down(care: &mut [u64], value: &mut [u64], decision: &mut [u16], i: usize
         (rules_of care.new value.new decision.new) i last }
 {
     for k in i..last {
-        let r = rule_at(care, value, decision, k + 1);
+        let r = rule_at(
+            RuleList {
+                care,
+                value,
+                decision,
+            },
+            k + 1,
+        );
         put_rule(care, value, decision, k, r);
     }
 }
@@ -43,19 +49,17 @@ pub fn remove_rule(
     ensures { Removed care.old value.old decision.old i count
         care.new value.new decision.new }
 {
-    if removable(care, value, decision, i, count) {
-        let last = count - 1;
-        move_down(care, value, decision, i, last);
-        put_rule(
+    if removable(
+        RuleList {
             care,
             value,
             decision,
-            last,
-            Rule {
-                care: Word { low: 0, high: 0 },
-                value: Word { low: 0, high: 0 },
-                decision: 0,
-            },
-        );
+        },
+        i,
+        count,
+    ) {
+        let last = count - 1;
+        move_down(care, value, decision, i, last);
+        put_rule(care, value, decision, last, BLANK);
     }
 }

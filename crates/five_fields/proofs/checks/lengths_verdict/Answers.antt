@@ -1,29 +1,18 @@
-use Rattle.five_fields.proofs.CheckLaws.{each-threes, lengths-two, lengths-three, lengths-fine}
-use Rattle.words.proofs.Tests.{true-and, and-on, and-off}
 use mathlib.Core.Path.{sym, ◌∙◌}
+use lib.Dec.{eqb}
+use Rattle.std.proofs.Common.{rules, tests}
+use Rattle.std.proofs.lemmas.Iterator.{YieldsList-from_slice}
+use Rattle.std.proofs.lemmas.Iterator.Search.{all_from_yields_List}
+use Rattle.rules.proofs.ReplyLaws.{need-yes, need-no}
+use Rattle.five_fields.proofs.CheckLaws.{each_all}
 use Rattle.five_fields.proofs.checks.lengths_verdict.Goals as goal
 
-pub returns-then-not-three_are : goal.returns-then-not-three_are
-returns-then-not-three_are c = let s = c.args in
-    let e = each-threes s.n s.a s.b s.c s.d s.e s.f s.g s.h s.i in
-    c.refused.ensures ∙ sym (lengths-two _ _ (e ∙ sym (and-off _ (sym c.three_are.ensures ∙ c.if-not-three_are.true))))
-
-pub returns-then-not-three_are-2 : goal.returns-then-not-three_are-2
-returns-then-not-three_are-2 c = let s = c.args in
-    let e = each-threes s.n s.a s.b s.c s.d s.e s.f s.g s.h s.i in
-    c.refused-then-not-three_are-2.ensures ∙ sym (lengths-two _ _ (e ∙ sym (and-off _ (sym c.three_are-2.ensures ∙ c.if-not-three_are-2.true) ∙ and-on (sym c.three_are.ensures ∙ c.if-not-three_are.false))))
-
-pub returns-then-not-three_are-3 : goal.returns-then-not-three_are-3
-returns-then-not-three_are-3 c = let s = c.args in
-    let e = each-threes s.n s.a s.b s.c s.d s.e s.f s.g s.h s.i in
-    c.refused-then-not-three_are-3.ensures ∙ sym (lengths-two _ _ (e ∙ sym (sym (sym c.three_are-3.ensures ∙ c.if-not-three_are-3.true) ∙ and-on (sym c.three_are-2.ensures ∙ c.if-not-three_are-2.false) ∙ and-on (sym c.three_are.ensures ∙ c.if-not-three_are.false))))
-
-pub returns-then-n-gt1024 : goal.returns-then-n-gt1024
-returns-then-n-gt1024 c = let s = c.args in
-    let e = each-threes s.n s.a s.b s.c s.d s.e s.f s.g s.h s.i in
-    c.refused-then-n-gt1024.ensures ∙ sym (lengths-three _ _ (e ∙ true-and (sym c.three_are.ensures ∙ c.if-not-three_are.false) (true-and (sym c.three_are-2.ensures ∙ c.if-not-three_are-2.false) (sym c.three_are-3.ensures ∙ c.if-not-three_are-3.false))) c.if-n-gt1024.true)
+pub returns-then-all : goal.returns-then-all
+returns-then-all c =
+    let e = all_from_yields_List (λ m. eqb m c.args.n) _ _ _ c.all.ensures.ran (YieldsList-from_slice c.args.lengths cc) (λ x b q k. search (rules, tests)) in
+    sym (need-yes _ 2 0 0 (sym (e ∙ each_all c.args.n c.args.lengths) ∙ c.if-all.true))
 
 pub returns : goal.returns
-returns c = let s = c.args in
-    let e = each-threes s.n s.a s.b s.c s.d s.e s.f s.g s.h s.i in
-    sym (lengths-fine _ _ (e ∙ true-and (sym c.three_are.ensures ∙ c.if-not-three_are.false) (true-and (sym c.three_are-2.ensures ∙ c.if-not-three_are-2.false) (sym c.three_are-3.ensures ∙ c.if-not-three_are-3.false))) c.if-n-gt1024.false)
+returns c =
+    let e = all_from_yields_List (λ m. eqb m c.args.n) _ _ _ c.all.ensures.ran (YieldsList-from_slice c.args.lengths cc) (λ x b q k. search (rules, tests)) in
+    c.refused.ensures ∙ sym (need-no _ 2 0 0 (sym (e ∙ each_all c.args.n c.args.lengths) ∙ c.if-all.false))

@@ -29,7 +29,7 @@ all-left s = ap (λ (rs : List FiveFieldRule). length (expanded rs)) (rules-all 
 pub loop-i-init : goal.loop-i-init
 loop-i-init c =
     let s = read _ c.requires in
-    (omega arith, omega (arith, all-left s))
+    omega (arith, all-left s)
 
 pub rule_count-n-requires : goal.rule_count-n-requires
 rule_count-n-requires c =
@@ -41,20 +41,17 @@ overflow_add-n c =
     let s = read _ c.requires in
     let o = c.loop-i in
     let e = same-length c.rule_at-rule.ensures in
-    omega (arith, e, o.invariant.1, c.rule_count-n.ensures, left-count s o.i (length s.decisions) c.loop-i-test.true, sound-most s c.requires)
-
-pub overflow_add-i : goal.overflow_add-i
-overflow_add-i c = omega (arith, c.loop-i-test.true, c.well_formed.1.1.1.1.1.1.1.1.1.0)
+    omega (arith, e, o.invariant, c.rule_count-n.ensures, left-count s o.i (length s.decisions) c.loop-i-test.true, sound-most s c.requires)
 
 pub loop-i-preserved : goal.loop-i-preserved
 loop-i-preserved c =
     let s = read _ c.requires in
     let o = c.loop-i in
     let e = same-length c.rule_at-rule.ensures in
-    (omega arith, omega (arith, e, o.invariant.1, c.rule_count-n.ensures, left-count s o.i (length s.decisions) c.loop-i-test.true))
+    omega (arith, e, o.invariant, c.rule_count-n.ensures, left-count s o.i (length s.decisions) c.loop-i-test.true)
 
 pub returns : goal.returns
 returns c =
     let s = read _ c.requires in
     let o = c.loop-i in
-    omega (arith, o.invariant.1, left-none s o.i (length s.decisions) c.loop-i-test.false)
+    omega (arith, o.invariant, left-none s o.i (length s.decisions) c.loop-i-test.false)

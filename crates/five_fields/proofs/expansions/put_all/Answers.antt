@@ -23,12 +23,6 @@ overflow_add-at c = let s = slices c.args.source.now c.args.source_length.now c.
     let o = c.loop-i in
     omega (arith, c.requires.1, c.put_expansion-at.ensures.0, expanding-room s _ _ _ o.i o.at _ _ _ o.invariant c.loop-i-test.true _ c.rule_at-rule.ensures, c.well_formed.1.1.1.1.1.1.1.1.1.1.1.1.0)
 
-pub overflow_add-i : goal.overflow_add-i
-overflow_add-i c = omega (arith, c.loop-i-test.true, c.well_formed.1.1.1.1.1.1.1.1.1.0)
-
-pub loop-i-smaller : goal.loop-i-smaller
-loop-i-smaller c = omega (arith, c.loop-i-test.true)
-
 pub loop-i-preserved : goal.loop-i-preserved
 loop-i-preserved c = let s = slices c.args.source.now c.args.source_length.now c.args.destination.now c.args.destination_length.now c.args.source_low.now c.args.source_high.now c.args.destination_low.now c.args.destination_high.now c.args.protocol.now c.args.decision.now in
     let o = c.loop-i in
