@@ -23,9 +23,6 @@ read-requires-in-loop-s c = omega (arith, c.loop-s-test.true, c.requires.1, word
 pub returns-then-not-is_zero : goal.returns-then-not-is_zero
 returns-then-not-is_zero c = loose-all _ _ _ _ (num-lt c.args.h (omega (arith, c.well_formed.1.1.1.0)) (omega (arith, c.well_formed.1.1.1.0))) _ _ (all_told c.lowest-all.ensures)
 
-pub overflow_add-i : goal.overflow_add-i
-overflow_add-i c = omega (arith, c.loop-s-test.true, c.requires.0, words-length c.args.care.now)
-
 pub next-s-requires-in-loop-s : goal.next-s-requires-in-loop-s
 next-s-requires-in-loop-s c = let l = c.loop-s-test.true in (c.loop-s.invariant.2 (omega (arith, words-length c.args.care.now)), omega arith, omega (arith, c.requires.0, words-length c.args.care.now))
 

@@ -7,9 +7,6 @@ use Rattle.compare.proofs.blocks.loose_places.Goals as goal
 pub returns-then-om-nm : goal.returns-then-om-nm
 returns-then-om-nm c = λ od nd. settled-all _ _ _ (num-lt c.args.h (omega (arith, c.well_formed.1.1.1.1.1.1.1.1.0)) (omega (arith, c.well_formed.1.1.1.1.1.1.1.1.0))) _ (all_told c.lowest.ensures)
 
-pub overflow_sub-k : goal.overflow_sub-k
-overflow_sub-k c = omega (arith, c.requires.4)
-
 pub returns-then-is_full : goal.returns-then-is_full
 returns-then-is_full c = λ od nd. settled-all _ _ _ (num-lt c.args.h (omega (arith, c.well_formed.1.1.1.1.1.1.1.1.0)) (omega (arith, c.well_formed.1.1.1.1.1.1.1.1.0))) _ (c.is_full.ensures.0 c.if-is_full.true)
 

@@ -4,7 +4,7 @@ use lib.Bits.{bit_and, bit_or}
 use Rattle.words.specs.Halves.{num}
 use Rattle.words.proofs.WordLaws.{holds, num-lt}
 use Rattle.compare.proofs.EngineMembers.{none-member}
-use Rattle.compare.proofs.EngineHalves.{less-free, low-valid, high-valid, told_same, told-apart, told-split, say-at, say-same, say-found, say-both, still}
+use Rattle.compare.proofs.EngineHalves.{less-free, low-valid, high-valid, told_same, told-apart, told-split, say-at, say-same, say-found, say-both}
 use native.Mathlib.Omega.{arith}
 use Rattle.compare.proofs.engine_cubes.+differs.Goals as goal
 
@@ -13,16 +13,6 @@ narrow-requires t c = let P = c.requires.0 in (P.few, P.values, P.within, refl, 
 
 pub narrow-requires-2 : goal.narrow-requires-2
 narrow-requires-2 t c = let P = c.requires.1 in (P.few, P.values, P.within, refl, none-member)
-
-pub look_at-look-requires : goal.look_at-look-requires
-look_at-look-requires t c = let a = c.args in
-    let P = c.requires in (
-      P.0,
-      P.1,
-      c.narrow.ensures.within,
-      c.narrow-2.ensures.within,
-      λ e. still _ _ _ _ _ _ (c.narrow.ensures.same a.od.now a.om) (c.narrow-2.ensures.same a.nd.now a.nm) _ P.2 (P.3 e),
-    )
 
 pub differs-requires : goal.differs-requires
 differs-requires t c = let L = num-lt c.or.result (omega arith) (omega arith) in

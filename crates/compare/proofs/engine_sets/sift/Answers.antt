@@ -1,7 +1,7 @@
 use Prim.Native.Nat.{ℕ, ◌+◌, ◌*◌, ◌<◌}
 use mathlib.Core.Path.{sym}
 use mathlib.Core.Bool.{false≢true}
-use lib.Count.{trailing_le, count_trailing_zeros}
+use lib.Count.{count_trailing_zeros}
 use lib.ListN.{length}
 use Rattle.words.specs.Slices.{words_of}
 use Rattle.words.proofs.SliceLaws.{words-length}
@@ -19,15 +19,6 @@ loop-x-init c = let a = c.args in
     let w : a.w < 16 = omega (arith, p.0, p.3) in
     (sift-start _ _ _ _ _ _ _ w p.5, whole_word _ _ w p.4)
 
-pub overflow_cast-t : goal.overflow_cast-t
-overflow_cast-t c = omega (arith, trailing_le 64 c.loop-x.x)
-
-pub overflow_mul-i : goal.overflow_mul-i
-overflow_mul-i c = let p = c.requires in omega (arith, p.0, p.3)
-
-pub overflow_add-i : goal.overflow_add-i
-overflow_add-i c = let p = c.requires in omega (arith, p.0, p.3, trailing_le 64 c.loop-x.x)
-
 pub returns-then-i-n : goal.returns-then-i-n
 returns-then-i-n c = let a = c.args in
     let L = c.loop-x in
@@ -39,9 +30,6 @@ returns-then-i-n c = let a = c.args in
 
 pub rule_meets-requires : goal.rule_meets-requires
 rule_meets-requires c = let p = c.requires in (omega (arith, c.if-i-n.false, words-length c.args.care.now), omega (arith, c.if-i-n.false, p.1, words-length c.args.care.now))
-
-pub overflow_shl-keep : goal.overflow_shl-keep
-overflow_shl-keep c = some-place c.loop-x.x c.known-x.ensures.1 c.loop-x-test.true
 
 pub rule_spans-requires : goal.rule_spans-requires
 rule_spans-requires c = let p = c.requires in omega (arith, c.if-i-n.false, words-length c.args.care.now)
@@ -61,12 +49,6 @@ returns-then-rule_spans c = let a = c.args in
     let more = more_of a.out.now a.w p.5.sized w L.keep (count_trailing_zeros 64 L.x) u in
     let q = c.rule_meets.ensures.0 c.if-rule_meets.true in
     (λ e. kept-cut _ _ _ _ _ _ (a.w * 64 + count_trailing_zeros 64 L.x) (add-in _ _ _ _ _ (a.w * 64 + count_trailing_zeros 64 L.x) (put a.out.now a.w L.keep) _ T l m q more) p.2 m q (c.rule_spans.ensures.0 c.if-rule_spans.true), λ e. absurd (false≢true (sym e)))
-
-pub overflow_sub-x : goal.overflow_sub-x
-overflow_sub-x c = omega (arith, c.loop-x-test.true)
-
-pub overflow_add-from : goal.overflow_add-from
-overflow_add-from c = let p = c.requires in omega (arith, c.if-i-n.false, p.0, p.1, words-length c.args.care.now)
 
 pub loop-x-smaller : goal.loop-x-smaller
 loop-x-smaller c = let a = c.args in

@@ -8,7 +8,7 @@ use Rattle.rules.proofs.CheckLaws.{sound-narrow}
 use Rattle.compare.specs.Search.{found_list}
 use Rattle.compare.proofs.EngineMembers.{none-member}
 use Rattle.compare.proofs.EngineWhole.{sound-ready}
-use Rattle.compare.proofs.SearchLaws.{in-cares, in-values, in-few, start-valid, search-none, search-start, search-end}
+use Rattle.compare.proofs.SearchLaws.{in-cares, in-values, start-valid, search-none, search-start, search-end}
 use Rattle.compare.proofs.lowest.lowest_change.Goals as goal
 
 pub read-requires : goal.read-requires
@@ -19,9 +19,6 @@ above-requires c = sound-narrow c.requires.0
 
 pub read-requires-2 : goal.read-requires-2
 read-requires-2 c = in-values _ _ _ _ _ c.requires.0 c.requires.1
-
-pub leave_out-requires : goal.leave_out-requires
-leave_out-requires c = (refl, in-few _ _ _ _ _ c.requires.0 c.requires.1)
 
 pub narrow-requires : goal.narrow-requires
 narrow-requires c = let R = (sound-ready _ _ _ _ c.requires.0) in (R.few, R.values, R.within, refl, none-member)
