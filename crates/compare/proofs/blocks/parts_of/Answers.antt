@@ -11,14 +11,14 @@ use native.Mathlib.Omega.{arith}
 use Rattle.compare.proofs.blocks.parts_of.Goals as goal
 
 pub overflow_sub-t : goal.overflow_sub-t
-overflow_sub-t c = omega (arith, c.leading_zeros-t.ensures, leading_le 128 (num c.and.result))
+overflow_sub-t c = omega (arith, c.leading_zeros-t.ensures, leading_le 128 (num c.bitand.result))
 
 pub returns-then-t-k : goal.returns-then-t-k
 returns-then-t-k c = (
   refl,
   λ u v S. parted-one (num c.args.base) c.args.k (num c.args.h) (num c.args.places) c.requires.0 c.requires.2 c.requires.3 _ _ c.above.ensures c.if-t-k.true
-      (few-places (num c.args.places) _ _ _ _ c.args.k (lowest-told c.args.k (block-few (num c.args.base) c.args.k c.requires.0) c.lowest.ensures) (holds c.and.ensures) (num-lt _ (omega arith) (omega arith)) c.leading_zeros-t.ensures refl)
-      _ refl (holds c.and-at.ensures) (holds c.and-at.ensures) u v S,
+      (few-places (num c.args.places) _ _ _ _ c.args.k (lowest-told c.args.k (block-few (num c.args.base) c.args.k c.requires.0) c.lowest.ensures) (holds c.bitand.ensures) (num-lt _ (omega arith) (omega arith)) c.leading_zeros-t.ensures refl)
+      _ refl (holds c.bitand-at.ensures) (holds c.bitand-at.ensures) u v S,
 )
 
 pub after-requires : goal.after-requires

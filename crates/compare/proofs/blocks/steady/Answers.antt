@@ -1,5 +1,4 @@
 use mathlib.Core.Path.{sym, ◌∙◌}
-use mathlib.Core.Bool.{false≢true}
 use Rattle.compare.proofs.EngineRules.{next-spotted}
 use Rattle.compare.proofs.SweepSteps.{steady-only, nothing-answers, nothing-ready, steady-engine}
 use Rattle.compare.proofs.blocks.steady.Goals as goal
