@@ -33,7 +33,7 @@ pub loop-s-preserved : goal.loop-s-preserved
 loop-s-preserved c = let E = next-in (sym (words-length c.args.care.now)) c.next-s-in-loop-s.ensures in (
   E.0.few,
   loose-skip _ _ _ _ (c.loop-s.s.at + 1) _ _ E.0.after E.0.none
-      (loose-more _ _ _ _ (num-lt c.args.h (omega (arith, c.well_formed.1.1.1.0)) (omega (arith, c.well_formed.1.1.1.0))) c.loop-s.s.at _ _ _ _ _ _ _ c.loop-s.invariant.1 (num-lt c.read.result (omega (arith, c.read.type_inv)) (omega (arith, c.read.type_inv))) c.read.ensures c.read-in-loop-s.ensures (open_told _ _ _ (num-lt c.read.result (omega (arith, c.read.type_inv)) (omega (arith, c.read.type_inv))) (all_told c.lowest-all.ensures) (holds c.without-open.ensures)) (holds c.xor.ensures) (holds c.or.ensures) (holds c.or-places.ensures)),
+      (loose-more _ _ _ _ (num-lt c.args.h (omega (arith, c.well_formed.1.1.1.0)) (omega (arith, c.well_formed.1.1.1.0))) c.loop-s.s.at _ _ _ _ _ _ _ c.loop-s.invariant.1 (num-lt c.read.result (omega (arith, c.read.type_inv)) (omega (arith, c.read.type_inv))) c.read.ensures c.read-in-loop-s.ensures (open_told _ _ _ (num-lt c.read.result (omega (arith, c.read.type_inv)) (omega (arith, c.read.type_inv))) (all_told c.lowest-all.ensures) (holds c.without-open.ensures)) (holds c.bitxor.ensures) (holds c.bitor.ensures) (holds c.bitor-places.ensures)),
   E.1,
 )
 

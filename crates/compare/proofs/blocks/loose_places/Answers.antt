@@ -11,4 +11,4 @@ pub returns-then-is_full : goal.returns-then-is_full
 returns-then-is_full c = λ od nd. settled-all _ _ _ (num-lt c.args.h (omega (arith, c.well_formed.1.1.1.1.1.1.1.1.0)) (omega (arith, c.well_formed.1.1.1.1.1.1.1.1.0))) _ (c.is_full.ensures.0 c.if-is_full.true)
 
 pub returns : goal.returns
-returns c = λ od nd. settled-places _ _ _ _ _ _ _ _ _ _ _ _ _ _ c.if-om-nm.false c.loose-old.ensures c.loose.ensures (holds c.or.ensures)
+returns c = λ od nd. settled-places _ _ _ _ _ _ _ _ _ _ _ _ _ _ c.if-om-nm.false c.loose-old.ensures c.loose.ensures (holds c.bitor.ensures)

@@ -11,8 +11,8 @@ pub returns-then-t-k : goal.returns-then-t-k
 returns-then-t-k c = (
   refl,
   λ u v S. parted-one (num c.args.base) c.args.k (num c.args.h) (num c.args.places) c.requires.0 c.requires.2 c.requires.3 _ _ c.above.ensures c.if-t-k.true
-      (few-places (num c.args.places) _ _ _ _ c.args.k (lowest-told c.args.k (block-few (num c.args.base) c.args.k c.requires.0) c.lowest.ensures) (holds c.and.ensures) (num-lt _ (omega arith) (omega arith)) c.leading_zeros-t.ensures refl)
-      _ refl (holds c.and-at.ensures) (holds c.and-at.ensures) u v S,
+      (few-places (num c.args.places) _ _ _ _ c.args.k (lowest-told c.args.k (block-few (num c.args.base) c.args.k c.requires.0) c.lowest.ensures) (holds c.bitand.ensures) (num-lt _ (omega arith) (omega arith)) c.leading_zeros-t.ensures refl)
+      _ refl (holds c.bitand-at.ensures) (holds c.bitand-at.ensures) u v S,
 )
 
 pub returns : goal.returns

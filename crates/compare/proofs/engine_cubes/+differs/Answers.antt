@@ -15,11 +15,11 @@ pub narrow-requires-2 : goal.narrow-requires-2
 narrow-requires-2 t c = let P = c.requires.1 in (P.few, P.values, P.within, refl, none-member)
 
 pub differs-requires : goal.differs-requires
-differs-requires t c = let L = num-lt c.or.result (omega arith) (omega arith) in
+differs-requires t c = let L = num-lt c.bitor.result (omega arith) (omega arith) in
     let a = c.args in
     let P = c.requires in
     let S = told-split _ _ _ _ _ c.look_at-look.ensures c.in-Split.is in
-    let E = holds c.or.ensures ∙ ap (bit_or (num a.cube.care)) S.0.weight in (
+    let E = holds c.bitor.ensures ∙ ap (bit_or (num a.cube.care)) S.0.weight in (
       less-free (num a.cube.care) (num a.cube.value) S.0.place S.0.free P.2 _ t E L c.decreases,
       (P.0, P.1, ap (bit_and (num a.cube.value)) E ∙ low-valid (num a.cube.care) (num a.cube.value) S.0.place S.0.free P.2, λ e. S.1),
     )
@@ -28,16 +28,16 @@ pub returns-in-Some-clause-decided : goal.returns-in-Some-clause-decided
 returns-in-Some-clause-decided t c = let a = c.args in
     let P = c.requires in
     let S = told-split _ _ _ _ _ c.look_at-look.ensures c.in-Split.is in
-    let E = holds c.or.ensures ∙ ap (bit_or (num a.cube.care)) S.0.weight in
+    let E = holds c.bitor.ensures ∙ ap (bit_or (num a.cube.care)) S.0.weight in
     say-found _ _ _ _ _ _ (c.narrow.ensures.same a.od.now a.om) (c.narrow-2.ensures.same a.nd.now a.nm) _ S.0.free P.2 _ E _ c.in-Some.ensures.decided
 
 pub differs-requires-in-Split : goal.differs-requires-in-Split
-differs-requires-in-Split t c = let L = num-lt c.or.result (omega arith) (omega arith) in
+differs-requires-in-Split t c = let L = num-lt c.bitor.result (omega arith) (omega arith) in
     let a = c.args in
     let P = c.requires in
     let S = told-split _ _ _ _ _ c.look_at-look.ensures c.in-Split.is in
-    let E = holds c.or.ensures ∙ ap (bit_or (num a.cube.care)) S.0.weight in
-    let U = holds c.or-half.ensures ∙ ap (bit_or (num a.cube.value)) S.0.weight in (
+    let E = holds c.bitor.ensures ∙ ap (bit_or (num a.cube.care)) S.0.weight in
+    let U = holds c.bitor-half.ensures ∙ ap (bit_or (num a.cube.value)) S.0.weight in (
       less-free (num a.cube.care) (num a.cube.value) S.0.place S.0.free P.2 _ t E L c.decreases,
       (P.0, P.1, ap₂ bit_and U E ∙ high-valid (num a.cube.care) (num a.cube.value) S.0.place S.0.free P.2 ∙ sym U, λ e. absurd (false≢true e)),
     )
@@ -56,8 +56,8 @@ pub returns-in_default-clause-decided : goal.returns-in_default-clause-decided
 returns-in_default-clause-decided t c = let a = c.args in
     let P = c.requires in
     let S = told-split _ _ _ _ _ c.look_at-look.ensures c.in-Split.is in
-    let E = holds c.or.ensures ∙ ap (bit_or (num a.cube.care)) S.0.weight in
-    let U = holds c.or-half.ensures ∙ ap (bit_or (num a.cube.value)) S.0.weight in
+    let E = holds c.bitor.ensures ∙ ap (bit_or (num a.cube.care)) S.0.weight in
+    let U = holds c.bitor-half.ensures ∙ ap (bit_or (num a.cube.value)) S.0.weight in
     say-both _ _ _ _ _ _ (c.narrow.ensures.same a.od.now a.om) (c.narrow-2.ensures.same a.nd.now a.nm) _ S.0.free P.2 _ E c.in_default.ensures.decided _ U _ c.differs-in-Split.ensures.decided
 
 pub returns-in-Unlike-clause-fits : goal.returns-in-Unlike-clause-fits

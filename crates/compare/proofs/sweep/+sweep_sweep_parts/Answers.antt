@@ -11,7 +11,7 @@ use Rattle.compare.proofs.EngineMembers.{none-member}
 use Rattle.compare.proofs.SweepSteps.{block-valid, block_last, known_at, known-none, goes-piece, goes_parts, block-piece, block-parts, swept_as, parts-start, parts-few, parts-room, parts-stop, parts-end, parts_next}
 use native.Mathlib.Omega.{arith}
 use Rattle.compare.proofs.sweep.+sweep_sweep_parts.Goals as goal
-use Rattle.compare.proofs.sweep.+sweep_sweep_parts.Goals.{sweep_parts-After-same, sweep_parts-in-Some+in-Continue, sweep_parts-in_default}
+use Rattle.compare.proofs.sweep.+sweep_sweep_parts.Goals.{sweep_parts-After-eq, sweep_parts-in-Some+in-Continue, sweep_parts-in_default}
 
 pub sweep-way_of-requires : goal.sweep-way_of-requires
 sweep-way_of-requires t c = (c.requires.0, c.requires.1, c.requires.2, c.requires.3, refl, none-member, refl, none-member)
@@ -45,7 +45,7 @@ pub sweep_parts-returns-in-Break : goal.sweep_parts-returns-in-Break
 sweep_parts-returns-in-Break t c = parts-stop _ _ _ c.args.p c.requires.2 _ _ _ _ _ _ _ _ _ _ _ c.loop-h.invariant _ _ _ _ _ c.in-Break.ensures
 
 -- the part that is looked at is swept
-part-swept : (t : ℕ) (c : sweep_parts-After-same t) → let a = c.args in let l = c.loop-h in
+part-swept : (t : ℕ) (c : sweep_parts-After-eq t) → let a = c.args in let l = c.loop-h in
     Sweeps (answer_of (words_of a.oc.now) (words_of a.ov.now) a.od.now a.ol.now a.om) (answer_of (words_of a.nc.now) (words_of a.nv.now) a.nd.now a.nl.now a.nm)
     (num a.start) (num l.part.value) (num l.part.value + 2 ^ a.p.k)
     l.first l.last l.old_answer l.new_answer c.match-ask.first c.match-ask.last c.match-ask.old_answer c.match-ask.new_answer l.m (Continue c.match-ask.m)
@@ -56,12 +56,12 @@ part-swept t c = elim c.match-ask.branch [
       (parts-few _ _ _ _ c.requires.2 _ _ _ _ _ _ _ _ _ _ _ c.loop-h.invariant)) v.first-is v.last-is v.old_answer-is v.new_answer-is v.m-is
 ]
 
-pub sweep_parts-returns-then-same : goal.sweep_parts-returns-then-same
-sweep_parts-returns-then-same t c =
+pub sweep_parts-returns-then-eq : goal.sweep_parts-returns-then-eq
+sweep_parts-returns-then-eq t c =
     parts-end _ _ _ c.args.p c.requires.2 _ _ _ _ _ _ _ _ _ _ _ c.loop-h.invariant _ _ _ _ _
-    (part-swept t (goal.at.sweep_parts-returns-then-same t c).After-same) (eqb_yes _ _ (sym c.same.ensures ∙ c.if-same.true))
+    (part-swept t (goal.at.sweep_parts-returns-then-eq t c).After-eq) (eqb_yes _ _ (sym c.eq.ensures ∙ c.if-eq.true))
 
 pub sweep_parts-loop-h-preserved : goal.sweep_parts-loop-h-preserved
 sweep_parts-loop-h-preserved t c =
     parts_next _ _ _ c.args.p c.requires.2 _ _ _ _ _ _ _ _ _ _ _ c.loop-h.invariant _ _ _ _ _
-    (part-swept t (goal.at.sweep_parts-loop-h-preserved t c).After-same) (no_eqb _ _ (sym c.same.ensures ∙ c.if-same.false)) _ refl refl
+    (part-swept t (goal.at.sweep_parts-loop-h-preserved t c).After-eq) (no_eqb _ _ (sym c.eq.ensures ∙ c.if-eq.false)) _ refl refl
