@@ -84,7 +84,7 @@ fn leave_out(live: &mut [u64; 17], i: usize)
     requires { (live.old ≡ replicate 17 18446744073709551615) × (i < 1024) }
     ensures { AllBut live.new i }
 {
-    live[i / 64 + 1] = 18446744073709551615 - (1u64 << (i % 64));
+    live[i / 64 + 1] = u64::MAX - (1u64 << (i % 64));
 }
 
 // The lowest header whose answer changes when the rule at position i is taken from a list that has passed its checks.
@@ -102,8 +102,8 @@ fn lowest_change(
         care: or(read(care, i), above(width)),
         value: read(value, i),
     };
-    let all = [18446744073709551615u64; 17];
-    let mut others = [18446744073709551615u64; 17];
+    let all = [u64::MAX; 17];
+    let mut others = [u64::MAX; 17];
     leave_out(&mut others, i);
     let mut with = [0u64; 17];
     narrow(care, value, &all, &mut with, cube);
