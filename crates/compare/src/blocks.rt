@@ -160,6 +160,7 @@ fn loose(care: &[u64], value: &[u64], live: &[u64; 17], h: Word, top: Word) -> W
     let all = lowest(128);
     let mut places = Word { low: 0, high: 0 };
     let mut s = next(live, before_all(live), 0, n);
+    // No range counts these steps: `next` follows the set bits.
     while s.at < n {
         let i = s.at;
         let open = without(all, read(care, i));

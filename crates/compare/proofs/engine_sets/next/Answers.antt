@@ -21,11 +21,11 @@ loop-x-preserved c = let L = c.loop-x in
 pub returns-then-i-n : goal.returns-then-i-n
 returns-then-i-n c = let L = c.loop-x in
     let ne = c.loop-x-test.false in
-    let l = some-place L.x c.known.ensures.1 ne in
+    let l = some-place L.x (omega arith) ne in
     (record { after = sought-after _ _ _ _ _ L.invariant ne l; few = omega arith; none = sought-before _ _ _ _ _ L.invariant ne l; found = λ u. sought-found _ _ _ _ _ L.invariant ne l }, λ u. sought-rest _ _ _ _ _ L.invariant ne l)
 
 pub returns : goal.returns
 returns c = let L = c.loop-x in
     let ne = c.loop-x-test.false in
-    let l = some-place L.x c.known.ensures.1 ne in
+    let l = some-place L.x (omega arith) ne in
     (record { after = omega arith; few = omega arith; none = λ k a b. sought-before _ _ _ _ _ L.invariant ne l k a (omega arith); found = λ l. absurd (let f : ⊥ = omega arith in f) }, λ l. absurd (let f : ⊥ = omega arith in f))
