@@ -7,19 +7,14 @@ use rules::{Rule, put_rule, rule_at};
 use words::Word;
 
 // Whether rule i can be taken out of the first `count` rules.
+#[tactic(auto, unfolding(crate::specs::Removal::removable))]
 fn removable(care: &[u64], value: &[u64], decision: &[u16], i: usize, count: usize) -> bool
     ensures { result ≡ removable_of care.now value.now decision.now i count }
 {
-    if care.len() != value.len() {
-        return false;
-    }
-    if care.len() != decision.len() * 2 {
-        return false;
-    }
-    if count <= i {
-        return false;
-    }
-    count <= decision.len()
+    care.len() == value.len()
+        && care.len() == decision.len() * 2
+        && i < count
+        && count <= decision.len()
 }
 
 // Moves the rules after rule i, up to rule `last`, down by one.
@@ -29,16 +24,15 @@ fn move_down(care: &mut [u64], value: &mut [u64], decision: &mut [u16], i: usize
     ensures { Shifted (rules_of care.old value.old decision.old)
         (rules_of care.new value.new decision.new) i last }
 {
-    let mut k = i;
-    while k < last {
+    for k in i..last {
         let r = rule_at(care, value, decision, k + 1);
         put_rule(care, value, decision, k, r);
-        k += 1;
     }
 }
 
 // Takes rule i out of the first `count` rules: those after it move down by one, and the place that becomes free is cleared.
 // Nothing changes where the slices do not belong together, or have not so many rules, or where i is not below `count`.
+#[tactic(auto, unfolding(crate::specs::Removal::removable))]
 pub fn remove_rule(
     care: &mut [u64],
     value: &mut [u64],
