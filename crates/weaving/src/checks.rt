@@ -6,6 +6,7 @@ ghost use Rattle.rules.specs.Checks.{lengths_check, room_check};
 use rules::{Reason, Refusal, refused};
 
 // Checks that there are as many places as are needed: 7.
+#[tactic(auto, unfolding(rules::specs::Checks::room_check))]
 pub(crate) fn check_room(needed: usize, places: usize) -> Result<(), Refusal>
     ensures { verdict_reply result ≡ room_check needed places }
 {
@@ -17,6 +18,7 @@ pub(crate) fn check_room(needed: usize, places: usize) -> Result<(), Refusal>
 
 // Checks the result slices of weaving: 2 where they are not equally long, then 7 where they have no place for each of `needed`
 // rules.
+#[tactic(auto, unfolding(rules::specs::Checks::lengths_check))]
 pub(crate) fn check_results(
     needed: usize,
     cares: &[u64],
