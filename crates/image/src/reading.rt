@@ -37,6 +37,7 @@ fn fill(
 
 // The slices for so many rules: 2 where care and value have not two numbers to each decision, then 7 where there are fewer
 // decisions than rules.
+#[tactic(auto, unfolding(rules::specs::Checks::lengths_check, rules::specs::Checks::room_check))]
 fn check_results(rules: usize, care: &[u64], value: &[u64], decision: &[u16]) -> Result<(), Refusal>
     ensures { verdict_reply result
         ≡ (lengths_check care.now value.now decision.now then room_check rules (length decision.now)) }
