@@ -9,10 +9,10 @@ use native.Mathlib.Omega.{arith}
 use Rattle.compare.proofs.engine_cubes.+differs.Goals as goal
 
 pub narrow-requires : goal.narrow-requires
-narrow-requires t c = let P = c.requires.0 in (P.few, P.values, P.within, refl, none-member)
+narrow-requires t c = (c.requires.0, refl, none-member)
 
 pub narrow-requires-2 : goal.narrow-requires-2
-narrow-requires-2 t c = let P = c.requires.1 in (P.few, P.values, P.within, refl, none-member)
+narrow-requires-2 t c = (c.requires.1, refl, none-member)
 
 pub look_at-look-requires : goal.look_at-look-requires
 look_at-look-requires t c = let a = c.args in
@@ -21,7 +21,7 @@ look_at-look-requires t c = let a = c.args in
       P.1,
       c.narrow.ensures.within,
       c.narrow-2.ensures.within,
-      λ e. still _ _ _ _ _ _ (c.narrow.ensures.same a.od.now a.om) (c.narrow-2.ensures.same a.nd.now a.nm) _ P.2 (P.3 e),
+      λ e. still _ _ _ _ _ _ (c.narrow.ensures.same a.old.now.rules.decision.now a.old.now.miss) (c.narrow-2.ensures.same a.new.now.rules.decision.now a.new.now.miss) _ P.2 (P.3 e),
     )
 
 pub differs-requires : goal.differs-requires
@@ -39,7 +39,7 @@ returns-in-Some-clause-decided t c = let a = c.args in
     let P = c.requires in
     let S = told-split _ _ _ _ _ c.look_at-look.ensures c.in-Split.is in
     let E = holds c.bitor.ensures ∙ ap (bit_or (num a.cube.care)) S.0.weight in
-    say-found _ _ _ _ _ _ (c.narrow.ensures.same a.od.now a.om) (c.narrow-2.ensures.same a.nd.now a.nm) _ S.0.free P.2 _ E _ c.in-Some.ensures.decided
+    say-found _ _ _ _ _ _ (c.narrow.ensures.same a.old.now.rules.decision.now a.old.now.miss) (c.narrow-2.ensures.same a.new.now.rules.decision.now a.new.now.miss) _ S.0.free P.2 _ E _ c.in-Some.ensures.decided
 
 pub differs-requires-in-Split : goal.differs-requires-in-Split
 differs-requires-in-Split t c = let L = num-lt c.bitor.result (omega arith) (omega arith) in
@@ -55,12 +55,12 @@ differs-requires-in-Split t c = let L = num-lt c.bitor.result (omega arith) (ome
 pub returns-in-Alike-clause-decided : goal.returns-in-Alike-clause-decided
 returns-in-Alike-clause-decided t c = let a = c.args in
     let P = c.requires in
-    say-same _ _ _ _ _ _ (c.narrow.ensures.same a.od.now a.om) (c.narrow-2.ensures.same a.nd.now a.nm) (told_same _ _ _ _ _ c.look_at-look.ensures c.in-Alike.is)
+    say-same _ _ _ _ _ _ (c.narrow.ensures.same a.old.now.rules.decision.now a.old.now.miss) (c.narrow-2.ensures.same a.new.now.rules.decision.now a.new.now.miss) (told_same _ _ _ _ _ c.look_at-look.ensures c.in-Alike.is)
 
 pub returns-in-Unlike-clause-decided : goal.returns-in-Unlike-clause-decided
 returns-in-Unlike-clause-decided t c = let a = c.args in
     let P = c.requires in
-    say-at _ _ _ _ _ _ (c.narrow.ensures.same a.od.now a.om) (c.narrow-2.ensures.same a.nd.now a.nm) _ P.2 (told-apart _ _ _ _ _ c.look_at-look.ensures c.in-Unlike.is)
+    say-at _ _ _ _ _ _ (c.narrow.ensures.same a.old.now.rules.decision.now a.old.now.miss) (c.narrow-2.ensures.same a.new.now.rules.decision.now a.new.now.miss) _ P.2 (told-apart _ _ _ _ _ c.look_at-look.ensures c.in-Unlike.is)
 
 pub returns-in_default-clause-decided : goal.returns-in_default-clause-decided
 returns-in_default-clause-decided t c = let a = c.args in
@@ -68,7 +68,7 @@ returns-in_default-clause-decided t c = let a = c.args in
     let S = told-split _ _ _ _ _ c.look_at-look.ensures c.in-Split.is in
     let E = holds c.bitor.ensures ∙ ap (bit_or (num a.cube.care)) S.0.weight in
     let U = holds c.bitor-half.ensures ∙ ap (bit_or (num a.cube.value)) S.0.weight in
-    say-both _ _ _ _ _ _ (c.narrow.ensures.same a.od.now a.om) (c.narrow-2.ensures.same a.nd.now a.nm) _ S.0.free P.2 _ E c.in_default.ensures.decided _ U _ c.differs-in-Split.ensures.decided
+    say-both _ _ _ _ _ _ (c.narrow.ensures.same a.old.now.rules.decision.now a.old.now.miss) (c.narrow-2.ensures.same a.new.now.rules.decision.now a.new.now.miss) _ S.0.free P.2 _ E c.in_default.ensures.decided _ U _ c.differs-in-Split.ensures.decided
 
 pub returns-in-Unlike-clause-fits : goal.returns-in-Unlike-clause-fits
 returns-in-Unlike-clause-fits t c = num-lt c.args.cube.value (omega arith) (omega arith)
