@@ -116,6 +116,7 @@ fn loose(side: &Side, h: Word, top: Word) -> Word
     let all = lowest(128);
     let mut places = Word { low: 0, high: 0 };
     let mut s = next(side.live, before_all(side.live), 0, n);
+    // No range counts these steps: `next` follows the set bits.
     while s.at < n {
         let i = s.at;
         let open = without(all, read(side.rules.care, i));

@@ -58,12 +58,10 @@ fn put_expansion(
     );
     put_pairs(
         rule,
-        &source_cares,
-        &source_values,
-        m,
-        &cares,
-        &values,
-        n,
+        &source_cares[..m],
+        &source_values[..m],
+        &cares[..n],
+        &values[..n],
         at,
         care,
         value,

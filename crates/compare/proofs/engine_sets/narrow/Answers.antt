@@ -1,8 +1,7 @@
 use Prim.Native.Nat.{◌*◌, ◌<◌}
-use lib.Count.{trailing_le, count_trailing_zeros}
+use lib.Count.{count_trailing_zeros}
 use Rattle.compare.specs.EngineSets.{count_in}
-use Rattle.compare.proofs.EngineWords.{fewer}
-use Rattle.compare.proofs.EngineSieve.{sieve-start, sieve-end, sieve-past, sieve-word, sieve-there, sieve-on, like-narrowed, like-kept}
+use Rattle.compare.proofs.EngineSieve.{sieve-end, sieve-past, sieve-word, sieve-there, sieve-on, like-narrowed, like-kept}
 use native.Mathlib.Omega.{arith}
 use Rattle.compare.proofs.engine_sets.narrow.Goals as goal
 use Rattle.compare.proofs.engine_sets.narrow.Goals.{Else-w-n}
@@ -10,15 +9,6 @@ use Rattle.compare.proofs.engine_sets.narrow.Goals.{Else-w-n}
 -- A group of 64 rules that the test lets through begins at one of the rules.
 inside : (c : Else-w-n) → count_trailing_zeros 64 c.loop-some.some * 64 < count_in c.args.side.now
 inside c = omega (arith, c.if-w-n.false, c.requires.0.decisions)
-
-pub loop-some-init : goal.loop-some-init
-loop-some-init c = let p = c.requires in sieve-start _ _ _ _ _ _ p.1 p.2
-
-pub overflow_cast-w : goal.overflow_cast-w
-overflow_cast-w c = omega (arith, trailing_le 64 c.loop-some.some)
-
-pub overflow_mul-w : goal.overflow_mul-w
-overflow_mul-w c = omega (arith, trailing_le 64 c.loop-some.some)
 
 pub returns-then-w-n : goal.returns-then-w-n
 returns-then-w-n c = sieve-past _ _ _ _ _ _ _ c.loop-some.invariant (omega (arith, c.if-w-n.true, c.requires.0.decisions))
@@ -42,12 +32,6 @@ put_word-requires c =
 
 pub returns-then-p : goal.returns-then-p
 returns-then-p c = like-narrowed _ _ _ _ c.put_word.ensures.1 _ _ _ (c.sift-p.ensures.0 c.if-p.true)
-
-pub overflow_sub-some : goal.overflow_sub-some
-overflow_sub-some c = omega (arith, c.loop-some-test.true)
-
-pub loop-some-smaller : goal.loop-some-smaller
-loop-some-smaller c = fewer c.loop-some.some c.loop-some-test.true
 
 pub loop-some-preserved : goal.loop-some-preserved
 loop-some-preserved c =

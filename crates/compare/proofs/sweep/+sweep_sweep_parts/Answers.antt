@@ -7,7 +7,7 @@ use Rattle.compare.specs.EngineSets.{answer_in}
 use Rattle.compare.specs.Sweep.{Sweeps}
 use Rattle.compare.proofs.EngineBlocks.{block-few}
 use Rattle.compare.proofs.EngineMembers.{none-member}
-use Rattle.compare.proofs.SweepSteps.{block-valid, block_last, known_at, known-none, goes-piece, goes_parts, block-piece, block-parts, swept_as, parts-start, parts-less, parts-few, parts-room, parts-stop, parts-end, parts_next}
+use Rattle.compare.proofs.SweepSteps.{block-valid, block_last, known_at, known-none, goes-piece, goes_parts, block-piece, block-parts, swept_as, parts-start, parts-few, parts-room, parts-stop, parts-end, parts_next}
 use native.Mathlib.Omega.{arith}
 use Rattle.compare.proofs.sweep.+sweep_sweep_parts.Goals as goal
 use Rattle.compare.proofs.sweep.+sweep_sweep_parts.Goals.{sweep_parts-After-eq, sweep_parts-in-Some+in-Continue, sweep_parts-in_default}
@@ -37,9 +37,6 @@ sweep_parts-above-requires t c = block-few _ _ c.requires.2.lower
 pub sweep_parts-loop-h-init : goal.sweep_parts-loop-h-init
 sweep_parts-loop-h-init t c = parts-start _ _ _ c.args.p c.requires.2 _ _ _ _ _ _ c.above.ensures refl c.requires.5
 
-pub sweep_parts-ask-requires : goal.sweep_parts-ask-requires
-sweep_parts-ask-requires t c = (c.requires.0, c.requires.1, c.loop-h.invariant.block, c.requires.3)
-
 pub sweep_parts-sweep-requires : goal.sweep_parts-sweep-requires
 sweep_parts-sweep-requires t c = (omega (arith, c.decreases), (c.requires.0, c.requires.1, c.loop-h.invariant.block, known_at _ _ _ _ _ _ c.in-Some.ensures, parts-room _ _ _ c.args.p c.requires.2 _ _ _ _ _ _ _ _ _ _ _ c.loop-h.invariant c.requires.4, parts-few _ _ _ c.args.p c.requires.2 _ _ _ _ _ _ _ _ _ _ _ c.loop-h.invariant))
 
@@ -62,9 +59,6 @@ pub sweep_parts-returns-then-eq : goal.sweep_parts-returns-then-eq
 sweep_parts-returns-then-eq t c =
     parts-end _ _ _ c.args.p c.requires.2 _ _ _ _ _ _ _ _ _ _ _ c.loop-h.invariant _ _ _ _ _
     (part-swept t (goal.at.sweep_parts-returns-then-eq t c).After-eq) (eqb_yes _ _ (sym c.eq.ensures ∙ c.if-eq.true))
-
-pub sweep_parts-loop-h-smaller : goal.sweep_parts-loop-h-smaller
-sweep_parts-loop-h-smaller t c = parts-less _ _ _ c.args.p c.requires.2 _ _ _ _ _ _ _ _ _ _ _ c.loop-h.invariant (no_eqb _ _ (sym c.eq.ensures ∙ c.if-eq.false)) _ refl
 
 pub sweep_parts-loop-h-preserved : goal.sweep_parts-loop-h-preserved
 sweep_parts-loop-h-preserved t c =
