@@ -21,7 +21,7 @@ pub returns-then-less : goal.returns-then-less
 returns-then-less c = known-before c.args.cube c.args.k c.requires.2 _ _ _ (omega (arith, ltb-true (num c.last_of.result) (num c.args.start) (sym c.less.ensures ∙ c.if-less.true), block_last c.args.cube c.args.k c.requires.2 (num c.last_of.result) c.last_of.ensures))
 
 pub returns-then-eq : goal.returns-then-eq
-returns-then-eq c = known-near c.args.cube c.args.k c.requires.2 _ _ _ c.args.known (num-lt c.args.known (omega (arith, c.well_formed.1.1.1.1.1.1.1.1.1.1.1.1.1.0)) (omega (arith, c.well_formed.1.1.1.1.1.1.1.1.1.1.1.1.1.0))) (reaches (goal.at.returns-then-eq c).Else-less) c.requires.3 (sym (holds c.bitand.ensures) ∙ eqb_yes _ _ (sym c.eq.ensures ∙ c.if-eq.true))
+returns-then-eq c = known-near c.args.cube c.args.k c.requires.2 _ _ _ c.args.known (num-lt c.args.known (omega arith) (omega arith)) (reaches (goal.at.returns-then-eq c).Else-less) c.requires.3 (sym (holds c.bitand.ensures) ∙ eqb_yes _ _ (sym c.eq.ensures ∙ c.if-eq.true))
 
 pub differs-requires : goal.differs-requires
 differs-requires c = (c.requires.0, c.requires.1, block-valid c.args.cube c.args.k c.requires.2, λ e. absurd (false≢true e))

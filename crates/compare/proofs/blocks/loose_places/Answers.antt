@@ -8,13 +8,13 @@ use Rattle.compare.proofs.blocks.loose_places.Goals as goal
 use Rattle.compare.proofs.blocks.loose_places.Goals.{Start}
 
 h-below : (c : Start) → num c.args.h < limit
-h-below c = num-lt c.args.h (omega (arith, c.well_formed.1.1.1.1.1.1.1.1.0)) (omega (arith, c.well_formed.1.1.1.1.1.1.1.1.0))
+h-below c = num-lt c.args.h (omega arith) (omega arith)
 
-pub returns-then-om-nm : goal.returns-then-om-nm
-returns-then-om-nm c = λ od nd. settled-all _ _ _ (h-below (goal.at.returns-then-om-nm c).Start) _ (all_told c.lowest.ensures)
+pub returns-then-old-new : goal.returns-then-old-new
+returns-then-old-new c = settled-all _ _ _ (h-below (goal.at.returns-then-old-new c).Start) _ (all_told c.lowest.ensures)
 
 pub returns-then-is_full : goal.returns-then-is_full
-returns-then-is_full c = λ od nd. settled-all _ _ _ (h-below (goal.at.returns-then-is_full c).Start) _ (c.is_full.ensures.0 c.if-is_full.true)
+returns-then-is_full c = settled-all _ _ _ (h-below (goal.at.returns-then-is_full c).Start) _ (c.is_full.ensures.0 c.if-is_full.true)
 
 pub returns : goal.returns
-returns c = λ od nd. settled-places _ _ _ _ _ _ _ _ _ _ _ _ _ _ c.if-om-nm.false c.loose-old.ensures c.loose.ensures (holds c.bitor.ensures)
+returns c = settled-places _ _ _ _ _ _ _ _ _ _ _ _ _ _ c.if-old-new.false c.loose-places.ensures c.loose.ensures (holds c.bitor.ensures)

@@ -16,10 +16,10 @@ pub returns-in-Some : goal.returns-in-Some
 returns-in-Some c = way-piece _ _ _ _ _ c.args.cube c.args.k _ c.requires.2 c.requires.3 (c.narrow.ensures.same _ _) (c.narrow-2.ensures.same _ _) _ _ c.in-Some.ensures
 
 pub loose_places-places-requires : goal.loose_places-places-requires
-loose_places-places-requires c = (c.requires.0.few, c.requires.0.values, c.requires.1.few, c.requires.1.values, deeper (goal.at.loose_places-places-requires c).In_default)
+loose_places-places-requires c = (c.requires.0, c.requires.1, deeper (goal.at.loose_places-places-requires c).In_default)
 
 pub parts_of-requires : goal.parts_of-requires
 parts_of-requires c = (c.requires.2.block, deeper (goal.at.parts_of-requires c).In_default, c.requires.3.from, c.requires.3.below)
 
 pub returns : goal.returns
-returns c = way_parts _ _ _ _ _ c.args.cube c.args.k _ c.requires.2 c.requires.3 (c.narrow.ensures.same _ _) (c.narrow-2.ensures.same _ _) _ (ap num c.parts_of.ensures.0) (c.parts_of.ensures.1 _ _ (c.loose_places-places.ensures _ _))
+returns c = way_parts _ _ _ _ _ c.args.cube c.args.k _ c.requires.2 c.requires.3 (c.narrow.ensures.same _ _) (c.narrow-2.ensures.same _ _) _ (ap num c.parts_of.ensures.0) (c.parts_of.ensures.1 _ _ c.loose_places-places.ensures)

@@ -1,6 +1,5 @@
 use Prim.Native.Nat.{◌<◌}
-use lib.ListN.{length}
-use Rattle.words.specs.Slices.{words_of}
+use Rattle.compare.specs.EngineSets.{count_in}
 use Rattle.compare.proofs.EngineRules.{next-spotted}
 use Rattle.compare.proofs.EngineLockstep.{step_start, step_skip, step-more, step-cover, step-rest}
 use native.Mathlib.Omega.{arith}
@@ -14,16 +13,16 @@ loop-cube-init c = let N = next-spotted c.requires.0.decisions c.next-s.ensures 
 pub returns-then-rule_spans : goal.returns-then-rule_spans
 returns-then-rule_spans c = λ e.
     let E = c.same_rest.ensures c.loop-cube-test.true in
-    let l : c.loop-cube.s.at < length (words_of c.args.oc.now) = omega (arith, E.0, c.requires.0.decisions) in
-    let r : c.loop-cube.t.at < length (words_of c.args.nc.now) = omega (arith, E.1, c.requires.1.decisions) in
+    let l : c.loop-cube.s.at < count_in c.args.old.now = omega (arith, E.0, c.requires.0.decisions) in
+    let r : c.loop-cube.t.at < count_in c.args.new.now = omega (arith, E.1, c.requires.1.decisions) in
     step-cover _ _ _ _ _ _ _ _ _ _ _ _ _ _ c.requires.0 c.requires.1 c.requires.2 c.requires.3
     (c.loop-cube.invariant.1.found l) (c.loop-cube.invariant.2.found r) E.3.0 E.3.1
     c.loop-cube.invariant.0 l r E.2 (c.rule_spans.ensures.0 c.if-rule_spans.true)
 
 pub loop-cube-preserved : goal.loop-cube-preserved
 loop-cube-preserved c = let E = c.same_rest.ensures c.loop-cube-test.true in
-    let l : c.loop-cube.s.at < length (words_of c.args.oc.now) = omega (arith, E.0, c.requires.0.decisions) in
-    let r : c.loop-cube.t.at < length (words_of c.args.nc.now) = omega (arith, E.1, c.requires.1.decisions) in
+    let l : c.loop-cube.s.at < count_in c.args.old.now = omega (arith, E.0, c.requires.0.decisions) in
+    let r : c.loop-cube.t.at < count_in c.args.new.now = omega (arith, E.1, c.requires.1.decisions) in
     let N = next-spotted c.requires.0.decisions c.next-s-in-loop-cube.ensures in
     let M = next-spotted c.requires.1.decisions c.next-t-in-loop-cube.ensures in
     let S = step-more _ _ _ _ _ _ _ _ _ _ _ _ _ _ c.requires.0 c.requires.1 c.requires.2 c.requires.3

@@ -1,14 +1,13 @@
 use mathlib.Core.Path.{◌≡◌, sym, ◌∙◌}
 use Rattle.words.specs.Halves.{num}
-use Rattle.words.specs.Slices.{words_of}
-use Rattle.compare.specs.EngineSets.{answer_of}
+use Rattle.compare.specs.EngineSets.{answer_in}
 use Rattle.compare.proofs.EngineHalves.{tell-same, tell-full, tell-apart, tell-split}
 use Rattle.compare.proofs.engine_cubes.look_at.Goals as goal
 use Rattle.compare.proofs.engine_cubes.look_at.Goals.{After-is_full, else-not-seen-via-then-not-seen+else-answer, else-not-seen-via-else-not-seen}
 
 -- the two sets answer alike at the cube's value
 alike : (c : After-is_full) → let a = c.args in
-    answer_of (words_of a.oc.now) (words_of a.ov.now) a.od.now a.ol.now a.om (num a.cube.value) ≡ answer_of (words_of a.nc.now) (words_of a.nv.now) a.nd.now a.nl.now a.nm (num a.cube.value)
+    answer_in a.old.now (num a.cube.value) ≡ answer_in a.new.now (num a.cube.value)
 alike c = elim c.else-not-seen.branch [
   | else-not-seen-via-then-not-seen+else-answer w ↦ sym w.answer.ensures ∙ w.if-answer.false ∙ w.answer-then-not-seen.ensures
   | else-not-seen-via-else-not-seen w ↦ c.requires.4 w.if-not-seen.false

@@ -17,15 +17,15 @@ free : (c : Else-not-is_zero) → bit (num c.args.cube.care) c.args.k ≡ 0
 free c = zero-there _ _ _ _ c.place-p.ensures (holds c.bitand-2.ensures) (sym c.is_zero-2.ensures ∙ c.if-not-is_zero.false)
 
 pub returns-then-is_zero : goal.returns-then-is_zero
-returns-then-is_zero c = lowered-zero _ _ _ _ _ _ c.requires.2 (zero-there _ _ _ _ c.place-p.ensures (holds c.bitand.ensures) (sym c.is_zero.ensures ∙ c.if-is_zero.true))
+returns-then-is_zero c = lowered-zero _ _ _ _ _ _ c.requires.3 (zero-there _ _ _ _ c.place-p.ensures (holds c.bitand.ensures) (sym c.is_zero.ensures ∙ c.if-is_zero.true))
 
 pub returns-then-not-is_zero : goal.returns-then-not-is_zero
-returns-then-not-is_zero c = lowered-fixed _ _ _ _ _ _ c.requires.2 (one-there _ _ _ _ c.place-p.ensures (holds c.bitand-2.ensures) (sym c.is_zero-2.ensures ∙ c.if-not-is_zero.true))
+returns-then-not-is_zero c = lowered-fixed _ _ _ _ _ _ c.requires.3 (one-there _ _ _ _ c.place-p.ensures (holds c.bitand-2.ensures) (sym c.is_zero-2.ensures ∙ c.if-not-is_zero.true))
 
 pub differs-requires : goal.differs-requires
 differs-requires c = let E = goal.at.differs-requires c in
-    (c.requires.0, c.requires.0, part-valid _ _ _ _ _ _ c.requires.2 (one E.Else-is_zero) (free E.Else-not-is_zero) (omega (arith, c.requires.1)) _ _ _ _ c.above.ensures (holds c.bitor-fixed.ensures) (holds c.without.ensures ∙ ap (less (num c.args.h)) c.place-p.ensures) (holds c.bitand-3.ensures), λ e. absurd (false≢true e))
+    (c.requires.0, c.requires.1, part-valid _ _ _ _ _ _ c.requires.3 (one E.Else-is_zero) (free E.Else-not-is_zero) (omega (arith, c.requires.2)) _ _ _ _ c.above.ensures (holds c.bitor-fixed.ensures) (holds c.without.ensures ∙ ap (less (num c.args.h)) c.place-p.ensures) (holds c.bitand-3.ensures), λ e. absurd (false≢true e))
 
 pub returns : goal.returns
 returns c = let E = goal.at.returns c in
-    rw c.unwrap_or.ensures (lowered-or _ _ _ _ _ _ c.requires.2 (one E.Else-is_zero) (free E.Else-not-is_zero) (omega (arith, c.requires.1)) _ _ _ _ c.above.ensures (holds c.bitor-fixed.ensures) (holds c.without.ensures ∙ ap (less (num c.args.h)) c.place-p.ensures) (holds c.bitand-3.ensures) c.args.h refl _ c.differs.ensures.decided c.differs.ensures.fits)
+    rw c.unwrap_or.ensures (lowered-or _ _ _ _ _ _ c.requires.3 (one E.Else-is_zero) (free E.Else-not-is_zero) (omega (arith, c.requires.2)) _ _ _ _ c.above.ensures (holds c.bitor-fixed.ensures) (holds c.without.ensures ∙ ap (less (num c.args.h)) c.place-p.ensures) (holds c.bitand-3.ensures) c.args.h refl _ c.differs.ensures.decided c.differs.ensures.fits)

@@ -28,16 +28,16 @@ pub read-requires-2 : goal.read-requires-2
 read-requires-2 c = in-values _ _ _ _ _ c.requires.0 c.requires.1
 
 pub narrow-requires : goal.narrow-requires
-narrow-requires c = let R = (sound-ready _ _ _ _ c.requires.0) in (R.few, R.values, R.within, refl, none-member)
+narrow-requires c = (sound-ready _ _ _ _ c.requires.0, refl, none-member)
 
 pub narrow-requires-2 : goal.narrow-requires-2
-narrow-requires-2 c = let R = (sound-ready _ _ _ _ c.requires.0) in (R.few, R.values, R.within, refl, none-member)
+narrow-requires-2 c = (sound-ready _ _ _ _ c.requires.0, refl, none-member)
 
 pub differs-requires : goal.differs-requires
 differs-requires c = ((sound-ready _ _ _ _ c.requires.0), (sound-ready _ _ _ _ c.requires.0), start-valid _ _ _ _ _ c.requires.0 c.requires.1 _ _ _ c.above.ensures (cared (goal.at.differs-requires c).After-bitor) c.read-2.ensures, λ e. absurd (false≢true e))
 
 pub lowest-requires : goal.lowest-requires
-lowest-requires c = ((sound-ready _ _ _ _ c.requires.0), sound-narrow c.requires.0, search-start _ _ _ _ _ c.requires.0 c.requires.1 _ _ _ c.above.ensures (cared (goal.at.lowest-requires c).After-bitor) c.read-2.ensures _ _ _ c.leave_out.ensures c.narrow.ensures c.narrow-2.ensures _ c.in_ok-h.ensures.fits c.in_ok-h.ensures.decided)
+lowest-requires c = (sound-ready _ _ _ _ c.requires.0, sound-ready _ _ _ _ c.requires.0, sound-narrow c.requires.0, search-start _ _ _ _ _ c.requires.0 c.requires.1 _ _ _ c.above.ensures (cared (goal.at.lowest-requires c).After-bitor) c.read-2.ensures _ _ _ c.leave_out.ensures c.narrow.ensures c.narrow-2.ensures _ c.in_ok-h.ensures.fits c.in_ok-h.ensures.decided)
 
 pub returns : goal.returns
 returns c = search-end _ _ _ _ _ c.requires.0 c.requires.1 _ _ _ c.above.ensures (cared (goal.at.returns c).After-bitor) c.read-2.ensures _ _ _ c.leave_out.ensures c.narrow.ensures c.narrow-2.ensures _ c.lowest.ensures

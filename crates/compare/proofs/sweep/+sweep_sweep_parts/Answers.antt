@@ -1,10 +1,9 @@
 use Prim.Native.Nat.{ℕ, ◌+◌, ◌^◌}
 use mathlib.Core.Path.{refl, sym, ◌∙◌}
 use Rattle.words.specs.Halves.{num}
-use Rattle.words.specs.Slices.{words_of}
 use Rattle.words.proofs.Tests.{eqb_yes, no_eqb}
 use Rattle.std.specs.declared.ops.ControlFlow.TheVariants.{Continue}
-use Rattle.compare.specs.EngineSets.{answer_of}
+use Rattle.compare.specs.EngineSets.{answer_in}
 use Rattle.compare.specs.Sweep.{Sweeps}
 use Rattle.compare.proofs.EngineBlocks.{block-few}
 use Rattle.compare.proofs.EngineMembers.{none-member}
@@ -46,7 +45,7 @@ sweep_parts-returns-in-Break t c = parts-stop _ _ _ c.args.p c.requires.2 _ _ _ 
 
 -- the part that is looked at is swept
 part-swept : (t : ℕ) (c : sweep_parts-After-eq t) → let a = c.args in let l = c.loop-h in
-    Sweeps (answer_of (words_of a.oc.now) (words_of a.ov.now) a.od.now a.ol.now a.om) (answer_of (words_of a.nc.now) (words_of a.nv.now) a.nd.now a.nl.now a.nm)
+    Sweeps (answer_in a.old.now) (answer_in a.new.now)
     (num a.start) (num l.part.value) (num l.part.value + 2 ^ a.p.k)
     l.first l.last l.old_answer l.new_answer c.match-ask.first c.match-ask.last c.match-ask.old_answer c.match-ask.new_answer l.m (Continue c.match-ask.m)
 part-swept t c = elim c.match-ask.branch [
