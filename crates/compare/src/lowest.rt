@@ -10,10 +10,10 @@ ghost use Rattle.compare.specs.EngineSets.{Ready, answer_of};
 ghost use Rattle.compare.specs.Search.{Lowered, AllBut, found_list};
 ghost use Rattle.compare.specs.Needed.{lowest_change, needed_reply, needed_in};
 
-use crate::engine::{Found, above, known_word, place, read};
+use crate::engine::{above, place, read};
 use crate::engine_cubes::differs;
 use crate::engine_sets::{Cube, narrow};
-use bits::{and, or, without};
+use bits::without;
 use rules::{Refusal, RuleList, Wire, check_list};
 use words::{Word, is_zero};
 
@@ -37,24 +37,21 @@ fn lower(
         (num cube.care) (num cube.value) k (num result) }
 {
     let p = place(k);
-    if is_zero(and(h, p)) {
+    if is_zero(h & p) {
         return h;
     }
-    if !is_zero(and(cube.care, p)) {
+    if !is_zero(cube.care & p) {
         return h;
     }
-    let fixed = or(cube.care, above(k));
+    let fixed = cube.care | above(k);
     let part = Cube {
         care: fixed,
-        value: and(without(h, p), fixed),
+        value: without(h, p) & fixed,
     };
-    let found = differs(
+    differs(
         care, value, decision, with, 65535, care, value, decision, but, 65535, part, false,
-    );
-    match found {
-        Found::At(x) => known_word(x),
-        Found::Nothing => h,
-    }
+    )
+    .unwrap_or(h)
 }
 
 // The lowest difference of the cube, from a difference h of it on. No header of the cube has a bit at weight 2^width or above.
@@ -76,9 +73,7 @@ fn lowest(
         (num cube.care) (num cube.value) 0 (num result) }
 {
     let mut low = h;
-    let mut k = width;
-    while 0 < k {
-        k -= 1;
+    for k in (0..width).rev() {
         low = lower(care, value, decision, with, but, cube, k, low);
     }
     low
@@ -89,16 +84,16 @@ fn leave_out(live: &mut [u64; 17], i: usize)
     requires { (live.old ≡ replicate 17 18446744073709551615) × (i < 1024) }
     ensures { AllBut live.new i }
 {
-    live[i / 64 + 1] = 18446744073709551615 - (1u64 << (i % 64));
+    live[i / 64 + 1] = u64::MAX - (1u64 << (i % 64));
 }
 
 // The lowest header whose answer changes when the rule at position i is taken from a list that has passed its checks.
-fn lowest_change(width: u32, rules: RuleList, i: usize) -> Found
+fn lowest_change(width: u32, rules: RuleList, i: usize) -> Option<Word>
     requires { SoundIn width rules × (i < length rules.decision.now) }
     ensures { found_list result ≡ lowest_change width (rules_in rules.entry) i }
 {
     let cube = Cube {
-        care: or(read(rules.care, i), above(width)),
+        care: read(rules.care, i) | above(width),
         value: read(rules.value, i),
     };
     let all = [u64::MAX; 17];
@@ -108,7 +103,7 @@ fn lowest_change(width: u32, rules: RuleList, i: usize) -> Found
     narrow(rules.care, rules.value, &all, &mut with, cube);
     let mut but = [0u64; 17];
     narrow(rules.care, rules.value, &others, &mut but, cube);
-    let found = differs(
+    let h = differs(
         rules.care,
         rules.value,
         rules.decision,
@@ -121,20 +116,17 @@ fn lowest_change(width: u32, rules: RuleList, i: usize) -> Found
         65535,
         cube,
         false,
-    );
-    match found {
-        Found::At(h) => Found::At(lowest(
-            rules.care,
-            rules.value,
-            rules.decision,
-            &with,
-            &but,
-            cube,
-            width,
-            known_word(h),
-        )),
-        Found::Nothing => Found::Nothing,
-    }
+    )?;
+    Some(lowest(
+        rules.care,
+        rules.value,
+        rules.decision,
+        &with,
+        &but,
+        cube,
+        width,
+        h,
+    ))
 }
 
 // The lowest header whose answer changes when the rule at a position, counted from 0, is taken from the list; nowhere where no header's answer
@@ -146,8 +138,8 @@ pub fn needed_at(width: u32, rules: RuleList, position: usize) -> Result<Option<
     if position >= rules.decision.len() {
         return Ok(None);
     }
-    match lowest_change(width, rules, position) {
-        Found::At(h) => Ok(Some(Wire(known_word(h)))),
-        Found::Nothing => Ok(None),
-    }
+    let Some(h) = lowest_change(width, rules, position) else {
+        return Ok(None);
+    };
+    Ok(Some(Wire(h)))
 }
