@@ -36,13 +36,6 @@ pub fn xor(a: Word, b: Word) -> Word
     }
 }
 
-// The bits of a that b does not have.
-pub fn without(a: Word, b: Word) -> Word
-    ensures { result ≡ halves (without_of (num a) (num b)) }
-{
-    and(a, flip(b))
-}
-
 // All 128 bits turned over.
 pub fn flip(a: Word) -> Word
     ensures { result ≡ halves (limit - 1 - num a) }
@@ -51,6 +44,13 @@ pub fn flip(a: Word) -> Word
         low: 18446744073709551615 - a.low,
         high: 18446744073709551615 - a.high,
     }
+}
+
+// The bits of a that b does not have.
+pub fn without(a: Word, b: Word) -> Word
+    ensures { result ≡ halves (without_of (num a) (num b)) }
+{
+    a & !b
 }
 
 // The number of set bits. Most words of narrow lists have none in the high half, and a count takes more than a test.

@@ -8,18 +8,11 @@ ghost use Rattle.compare.specs.EngineSets.{Ready, member, answer_of, Within};
 ghost use Rattle.compare.specs.EngineCubes.{Block, IsBlock, Constant};
 ghost use Rattle.compare.specs.Sweep.{Differs, Known, Shaped, Loose, Settled, Parted, Goes};
 
-use crate::engine::{Found, above, after, is_full, known_word, read};
+use crate::engine::{above, after, is_full, read};
 use crate::engine_cubes::{differs, only};
 use crate::engine_sets::{Cube, answer, last_of, narrow, next, start as before_all};
 use bits::{and, leading_zeros, lowest, or, single, without, xor};
 use words::{Word, is_zero, less, same};
-
-// Whether a block is one piece, with these answers.
-#[derive(Clone, Copy)]
-enum Shape {
-    Piece(u16, u16),
-    Mixed,
-}
 
 // The parts of a block that are swept: blocks of 2^k headers, one that starts at `low` and one at `high`, which may be the same
 // one. `known` is a difference.
@@ -38,7 +31,7 @@ pub(crate) enum Way {
     Parts(Parts),
 }
 
-// A difference of the block of 2^k headers that the cube is, or that it has none at or after `start`. A difference that is known is
+// A difference of the block of 2^k headers that the cube is, or none where it has none at or after `start`. A difference that is known is
 // taken where it lies in the block.
 pub(crate) fn ask(
     oc: &[u64],
@@ -55,7 +48,7 @@ pub(crate) fn ask(
     cube: Cube,
     k: u32,
     known: Word,
-) -> Found
+) -> Option<Word>
     requires { Ready (words_of oc.now) (words_of ov.now) od.now × Ready (words_of nc.now) (words_of nv.now) nd.now × IsBlock cube k
         × (answer_of (words_of oc.now) (words_of ov.now) od.now ol.now om (num known)
         ≡ answer_of (words_of nc.now) (words_of nv.now) nd.now nl.now nm (num known) → ⊥) }
@@ -63,16 +56,12 @@ pub(crate) fn ask(
         (answer_of (words_of nc.now) (words_of nv.now) nd.now nl.now nm) (num start) (num cube.value) (num cube.value + 2 ^ k) result }
 {
     if less(last_of(cube), start) {
-        return Found::Nothing;
+        return None;
     }
     if same(and(known, cube.care), cube.value) {
-        return Found::At(known);
+        return Some(known);
     }
-    let found = differs(oc, ov, od, ol, om, nc, nv, nd, nl, nm, cube, false);
-    match found {
-        Found::At(h) => Found::At(known_word(h)),
-        Found::Nothing => Found::Nothing,
-    }
+    differs(oc, ov, od, ol, om, nc, nv, nd, nl, nm, cube, false)
 }
 
 // Whether the rules in play answer `a`, as they do at the cube's value, on the whole cube: because all of them decide a, up to
@@ -99,7 +88,7 @@ fn steady(
     }
     let none = [0u64; 0];
     let none_decided = [0u16; 0];
-    let found = differs(
+    differs(
         care,
         value,
         decision,
@@ -112,15 +101,12 @@ fn steady(
         a,
         cube,
         true,
-    );
-    match found {
-        Found::At(_) => false,
-        Found::Nothing => true,
-    }
+    )
+    .is_none()
 }
 
-// Whether the block of 2^k headers that the cube is, and all rules in play meet, is one piece and has no header before `start`. The
-// answers at its last header are looked at first: mostly they tell that it is none, and the engine need not be asked.
+// The two answers of the block of 2^k headers that the cube is, and all rules in play meet, where it is one piece and has no header
+// before `start`. The answers at its last header are looked at first: mostly they tell that it is none, and the engine need not be asked.
 fn shape_of(
     oc: &[u64],
     ov: &[u64],
@@ -135,7 +121,7 @@ fn shape_of(
     start: Word,
     k: u32,
     cube: Cube,
-) -> Shape
+) -> Option<(u16, u16)>
     requires { Ready (words_of oc.now) (words_of ov.now) od.now × Ready (words_of nc.now) (words_of nv.now) nd.now
         × Within (words_of oc.now) (words_of ov.now) ol.now (num cube.care) (num cube.value) × Within (words_of nc.now) (words_of nv.now) nl.now (num cube.care) (num cube.value)
         × (bit_and (num cube.value) (num cube.care) ≡ num cube.value) × (k ≡ 0 → num cube.care ≡ limit - 1) }
@@ -144,29 +130,24 @@ fn shape_of(
 {
     let base = cube.value;
     if less(base, start) {
-        return Shape::Mixed;
+        return None;
     }
     let a = answer(oc, ov, od, ol, om, base);
     let b = answer(nc, nv, nd, nl, nm, base);
     if a == b {
-        return Shape::Mixed;
+        return None;
     }
     if k == 0 {
-        return Shape::Piece(a, b);
+        return Some((a, b));
     }
     let last = last_of(cube);
-    if answer(oc, ov, od, ol, om, last) != a {
-        return Shape::Mixed;
+    if answer(oc, ov, od, ol, om, last) != a || answer(nc, nv, nd, nl, nm, last) != b {
+        return None;
     }
-    if answer(nc, nv, nd, nl, nm, last) != b {
-        return Shape::Mixed;
+    if steady(oc, ov, od, ol, om, a, cube) && steady(nc, nv, nd, nl, nm, b, cube) {
+        return Some((a, b));
     }
-    if steady(oc, ov, od, ol, om, a, cube) {
-        if steady(nc, nv, nd, nl, nm, b, cube) {
-            return Shape::Piece(a, b);
-        }
-    }
-    Shape::Mixed
+    None
 }
 
 // The places at which a header that some rule in play matches may have another value than h. Where `top`, one place, is among them, it
@@ -279,8 +260,7 @@ pub(crate) fn way_of(
 {
     narrow(oc, ov, ol, o, cube);
     narrow(nc, nv, nl, n, cube);
-    let shape = shape_of(oc, ov, od, o, om, nc, nv, nd, n, nm, start, k, cube);
-    if let Shape::Piece(a, b) = shape {
+    if let Some((a, b)) = shape_of(oc, ov, od, o, om, nc, nv, nd, n, nm, start, k, cube) {
         return Way::Piece(a, b);
     }
     let places = loose_places(oc, ov, o, om, nc, nv, n, nm, h, k);

@@ -55,6 +55,15 @@ word-least f = within (eqb f 1)
     within true = omega arith
     within false = omega arith
 
+-- nor more than 16
+pub word-most : (f : ℕ) → word_bytes f ≤ 16
+unfolding word_bytes
+word-most f = within (eqb f 1)
+  where
+    within : (t : Bool) → choose t 8 16 ≤ 16
+    within true = omega arith
+    within false = omega arith
+
 -- nor less than 18 to a rule
 pub rule-least : (f : ℕ) → 18 ≤ rule_size f
 rule-least f = omega (arith, rule-words f, word-least f)

@@ -2,6 +2,7 @@
 #![tactic(auto)]
 
 mod machine;
+mod operators;
 mod order;
 mod slices;
 mod steps;

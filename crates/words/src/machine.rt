@@ -5,6 +5,15 @@ ghost use Rattle.words.specs.Halves.{num, halves};
 use crate::Word;
 
 // The word that holds a machine word's number.
+impl From<u64> for Word {
+    ghost from_gives = { λ n w. w ≡ halves n };
+
+    fn from(n: u64) -> Word {
+        Word { low: n, high: 0 }
+    }
+}
+
+// The word that holds a machine word's number.
 pub fn wide(n: u64) -> Word
     ensures { result ≡ halves n }
 {
@@ -18,5 +27,5 @@ pub fn capped(a: Word) -> u64
     if a.high == 0 {
         return a.low;
     }
-    18446744073709551615
+    u64::MAX
 }

@@ -24,8 +24,8 @@ look_at-look-requires t c = let a = c.args in
       λ e. still _ _ _ _ _ _ (c.narrow.ensures.same a.od.now a.om) (c.narrow-2.ensures.same a.nd.now a.nm) _ P.2 (P.3 e),
     )
 
-pub differs-found-requires : goal.differs-found-requires
-differs-found-requires t c = let L = num-lt c.or.result (omega arith) (omega arith) in
+pub differs-requires : goal.differs-requires
+differs-requires t c = let L = num-lt c.or.result (omega arith) (omega arith) in
     let a = c.args in
     let P = c.requires in
     let S = told-split _ _ _ _ _ c.look_at-look.ensures c.in-Split.is in
@@ -34,15 +34,15 @@ differs-found-requires t c = let L = num-lt c.or.result (omega arith) (omega ari
       (P.0, P.1, ap (bit_and (num a.cube.value)) E ∙ low-valid (num a.cube.care) (num a.cube.value) S.0.place S.0.free P.2, λ e. S.1),
     )
 
-pub returns-in_default : goal.returns-in_default
-returns-in_default t c = let a = c.args in
+pub returns-in-Some-clause-decided : goal.returns-in-Some-clause-decided
+returns-in-Some-clause-decided t c = let a = c.args in
     let P = c.requires in
     let S = told-split _ _ _ _ _ c.look_at-look.ensures c.in-Split.is in
     let E = holds c.or.ensures ∙ ap (bit_or (num a.cube.care)) S.0.weight in
-    say-found _ _ _ _ _ _ (c.narrow.ensures.same a.od.now a.om) (c.narrow-2.ensures.same a.nd.now a.nm) _ S.0.free P.2 _ E _ c.differs-found.ensures c.in_default.is
+    say-found _ _ _ _ _ _ (c.narrow.ensures.same a.od.now a.om) (c.narrow-2.ensures.same a.nd.now a.nm) _ S.0.free P.2 _ E _ c.in-Some.ensures.decided
 
-pub differs-requires : goal.differs-requires
-differs-requires t c = let L = num-lt c.or.result (omega arith) (omega arith) in
+pub differs-requires-in-Split : goal.differs-requires-in-Split
+differs-requires-in-Split t c = let L = num-lt c.or.result (omega arith) (omega arith) in
     let a = c.args in
     let P = c.requires in
     let S = told-split _ _ _ _ _ c.look_at-look.ensures c.in-Split.is in
@@ -52,20 +52,23 @@ differs-requires t c = let L = num-lt c.or.result (omega arith) (omega arith) in
       (P.0, P.1, ap₂ bit_and U E ∙ high-valid (num a.cube.care) (num a.cube.value) S.0.place S.0.free P.2 ∙ sym U, λ e. absurd (false≢true e)),
     )
 
-pub returns-in-Alike : goal.returns-in-Alike
-returns-in-Alike t c = let a = c.args in
+pub returns-in-Alike-clause-decided : goal.returns-in-Alike-clause-decided
+returns-in-Alike-clause-decided t c = let a = c.args in
     let P = c.requires in
     say-same _ _ _ _ _ _ (c.narrow.ensures.same a.od.now a.om) (c.narrow-2.ensures.same a.nd.now a.nm) (told_same _ _ _ _ _ c.look_at-look.ensures c.in-Alike.is)
 
-pub returns-in-Unlike : goal.returns-in-Unlike
-returns-in-Unlike t c = let a = c.args in
+pub returns-in-Unlike-clause-decided : goal.returns-in-Unlike-clause-decided
+returns-in-Unlike-clause-decided t c = let a = c.args in
     let P = c.requires in
     say-at _ _ _ _ _ _ (c.narrow.ensures.same a.od.now a.om) (c.narrow-2.ensures.same a.nd.now a.nm) _ P.2 (told-apart _ _ _ _ _ c.look_at-look.ensures c.in-Unlike.is)
 
-pub returns-in-Nothing : goal.returns-in-Nothing
-returns-in-Nothing t c = let a = c.args in
+pub returns-in_default-clause-decided : goal.returns-in_default-clause-decided
+returns-in_default-clause-decided t c = let a = c.args in
     let P = c.requires in
     let S = told-split _ _ _ _ _ c.look_at-look.ensures c.in-Split.is in
     let E = holds c.or.ensures ∙ ap (bit_or (num a.cube.care)) S.0.weight in
     let U = holds c.or-half.ensures ∙ ap (bit_or (num a.cube.value)) S.0.weight in
-    say-both _ _ _ _ _ _ (c.narrow.ensures.same a.od.now a.om) (c.narrow-2.ensures.same a.nd.now a.nm) _ S.0.free P.2 _ E _ c.differs-found.ensures c.in-Nothing.is _ U _ c.differs.ensures
+    say-both _ _ _ _ _ _ (c.narrow.ensures.same a.od.now a.om) (c.narrow-2.ensures.same a.nd.now a.nm) _ S.0.free P.2 _ E c.in_default.ensures.decided _ U _ c.differs-in-Split.ensures.decided
+
+pub returns-in-Unlike-clause-fits : goal.returns-in-Unlike-clause-fits
+returns-in-Unlike-clause-fits t c = num-lt c.args.cube.value (omega arith) (omega arith)

@@ -5,6 +5,7 @@ use lib.Bits.{bit_or}
 use Rattle.words.specs.Halves.{num}
 use Rattle.words.proofs.WordLaws.{holds}
 use Rattle.rules.proofs.CheckLaws.{sound-narrow}
+use Rattle.compare.specs.Search.{found_list}
 use Rattle.compare.proofs.EngineMembers.{none-member}
 use Rattle.compare.proofs.EngineWhole.{sound-ready}
 use Rattle.compare.proofs.SearchLaws.{in-cares, in-values, in-few, start-valid, search-none, search-start, search-end}
@@ -28,14 +29,14 @@ narrow-requires c = let R = (sound-ready _ _ _ _ c.requires.0) in (R.few, R.valu
 pub narrow-requires-2 : goal.narrow-requires-2
 narrow-requires-2 c = let R = (sound-ready _ _ _ _ c.requires.0) in (R.few, R.values, R.within, refl, none-member)
 
-pub differs-found-requires : goal.differs-found-requires
-differs-found-requires c = ((sound-ready _ _ _ _ c.requires.0), (sound-ready _ _ _ _ c.requires.0), start-valid _ _ _ _ _ c.requires.0 c.requires.1 _ _ _ c.above.ensures (holds c.or.ensures ∙ ap (λ (x : ℕ). bit_or x (num c.above.result)) c.read.ensures) c.read-2.ensures, λ e. absurd (false≢true e))
+pub differs-requires : goal.differs-requires
+differs-requires c = ((sound-ready _ _ _ _ c.requires.0), (sound-ready _ _ _ _ c.requires.0), start-valid _ _ _ _ _ c.requires.0 c.requires.1 _ _ _ c.above.ensures (holds c.or.ensures ∙ ap (λ (x : ℕ). bit_or x (num c.above.result)) c.read.ensures) c.read-2.ensures, λ e. absurd (false≢true e))
 
 pub lowest-requires : goal.lowest-requires
-lowest-requires c = ((sound-ready _ _ _ _ c.requires.0), sound-narrow c.requires.0, search-start _ _ _ _ _ c.requires.0 c.requires.1 _ _ _ c.above.ensures (holds c.or.ensures ∙ ap (λ (x : ℕ). bit_or x (num c.above.result)) c.read.ensures) c.read-2.ensures _ _ _ c.leave_out.ensures c.narrow.ensures c.narrow-2.ensures _ c.differs-found.ensures _ _ c.in-At.is c.known_word.ensures.0 c.known_word.ensures.2)
+lowest-requires c = ((sound-ready _ _ _ _ c.requires.0), sound-narrow c.requires.0, search-start _ _ _ _ _ c.requires.0 c.requires.1 _ _ _ c.above.ensures (holds c.or.ensures ∙ ap (λ (x : ℕ). bit_or x (num c.above.result)) c.read.ensures) c.read-2.ensures _ _ _ c.leave_out.ensures c.narrow.ensures c.narrow-2.ensures _ c.in_ok-h.ensures.fits c.in_ok-h.ensures.decided)
 
-pub returns-in-At : goal.returns-in-At
-returns-in-At c = search-end _ _ _ _ _ c.requires.0 c.requires.1 _ _ _ c.above.ensures (holds c.or.ensures ∙ ap (λ (x : ℕ). bit_or x (num c.above.result)) c.read.ensures) c.read-2.ensures _ _ _ c.leave_out.ensures c.narrow.ensures c.narrow-2.ensures _ c.lowest.ensures
+pub returns : goal.returns
+returns c = search-end _ _ _ _ _ c.requires.0 c.requires.1 _ _ _ c.above.ensures (holds c.or.ensures ∙ ap (λ (x : ℕ). bit_or x (num c.above.result)) c.read.ensures) c.read-2.ensures _ _ _ c.leave_out.ensures c.narrow.ensures c.narrow-2.ensures _ c.lowest.ensures
 
-pub returns-in-Nothing : goal.returns-in-Nothing
-returns-in-Nothing c = search-none _ _ _ _ _ c.requires.0 c.requires.1 _ _ _ c.above.ensures (holds c.or.ensures ∙ ap (λ (x : ℕ). bit_or x (num c.above.result)) c.read.ensures) c.read-2.ensures _ _ _ c.leave_out.ensures c.narrow.ensures c.narrow-2.ensures _ c.differs-found.ensures c.in-Nothing.is
+pub returns-in_err-h : goal.returns-in_err-h
+returns-in_err-h c = ap found_list c.from_residual.ensures ∙ search-none _ _ _ _ _ c.requires.0 c.requires.1 _ _ _ c.above.ensures (holds c.or.ensures ∙ ap (λ (x : ℕ). bit_or x (num c.above.result)) c.read.ensures) c.read-2.ensures _ _ _ c.leave_out.ensures c.narrow.ensures c.narrow-2.ensures c.in_err-h.ensures.decided

@@ -1,16 +1,9 @@
-use mathlib.Core.Path.{◌∙◌}
-use Rattle.image.proofs.SeekLaws.{id-image, id-found, id-none, fine-facts}
+use mathlib.Core.Path.{sym, ◌∙◌}
+use Rattle.rules.proofs.ReplyLaws.{passed-up}
 use Rattle.image.proofs.questions.body_refusal.Goals as goal
 
-pub returns-in_default : goal.returns-in_default
-returns-in_default c = id-image _ _ _ c.check-v.ensures c.in_default.is
-
-pub find-p-requires : goal.find-p-requires
-find-p-requires c = let f = fine-facts _ _ c.check-v.ensures c.in-Fine.is in
-    (f.head.least, f.head.most, f.sums)
-
-pub returns-then-p : goal.returns-then-p
-returns-then-p c = id-found _ _ _ _ c.check-v.ensures c.in-Fine.is c.find-p.ensures.0 c.if-p.true
+pub returns-in_err-found : goal.returns-in_err-found
+returns-in_err-found c = passed-up _ _ _ c.from_residual.ensures.1 ∙ sym c.in_err-found.ensures
 
 pub returns : goal.returns
-returns c = c.refused.ensures ∙ id-none _ _ _ _ c.check-v.ensures c.in-Fine.is c.find-p.ensures.0 c.if-p.false
+returns c = sym c.in_ok-found.ensures.checked

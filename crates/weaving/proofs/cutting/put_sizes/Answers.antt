@@ -33,13 +33,17 @@ pub loop-from-preserved : goal.loop-from-preserved
 loop-from-preserved c = let o = c.loop-from in
     (search rules, sized-more _ _ _ _ _ _ o.invariant.1 c.run_end-to.ensures (few-decisions _ _ _ _ (omega (arith, o.invariant.0, c.requires.decision_len_bound.1))))
 
-pub clear_sizes-requires : goal.clear_sizes-requires
-clear_sizes-requires c = let o = c.loop-from in
-    let size = rules-length _ _ _ c.requires.lent in
-    (omega (arith, o.invariant.1.behind, o.invariant.1.inside, size), omega (arith, o.invariant.0, o.invariant.1.behind, o.invariant.1.inside, size, c.requires.decision_len_bound.1))
+pub offset_bounds-sizes-at-2 : goal.offset_bounds-sizes-at-2
+offset_bounds-sizes-at-2 c = let s = c.loop-from.invariant.1 in omega (arith, s.behind, s.inside, rules-length _ _ _ c.requires.lent, c.requires.decision_len_bound.0)
+
+pub slice_bounds-fill-count : goal.slice_bounds-fill-count
+slice_bounds-fill-count c = let s = c.loop-from.invariant.1 in omega (arith, s.behind, s.inside, rules-length _ _ _ c.requires.lent)
+
+pub slice_bounds-fill-start : goal.slice_bounds-fill-start
+slice_bounds-fill-start c = let s = c.loop-from.invariant.1 in omega (arith, c.loop-from.invariant.0, s.behind, s.inside, rules-length _ _ _ c.requires.lent, c.requires.decision_len_bound.1)
 
 pub returns : goal.returns
 returns c = let o = c.loop-from in
     let size = rules-length _ _ _ c.requires.lent in
-    sized-done _ _ _ _ _ _ _ o.invariant.1 c.clear_sizes.ensures (omega (arith, o.invariant.1.inside, size, c.loop-from-test.false)) (sym size)
+    sized-done _ _ _ _ _ _ _ o.invariant.1 (c.fill.ensures.after (λ y h. h)) (omega (arith, o.invariant.1.inside, size, c.loop-from-test.false)) (sym size)
     (few-decisions _ _ _ _ (omega (arith, o.invariant.0, c.requires.decision_len_bound.1)))

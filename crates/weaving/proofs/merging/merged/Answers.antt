@@ -9,4 +9,4 @@ use Rattle.weaving.proofs.merging.merged.Goals as goal
 
 pub returns : goal.returns
 unfolding merged
-returns c = ap₂ (λ (x y : Word). record { care = x; value = y; decision = c.args.a.decision }) (c.xor-2.ensures ∙ ap (λ (k : ℕ). halves (bit_xor (num c.args.a.care) k)) (holds c.xor.ensures)) c.and.ensures
+returns c = ap₂ (λ (x y : Word). record { care = x; value = y; decision = c.args.a.decision }) (c.bitxor-2.ensures ∙ ap (λ (k : ℕ). halves (bit_xor (num c.args.a.care) k)) (holds c.bitxor.ensures)) c.bitand.ensures
