@@ -8,6 +8,7 @@ use compare::Compared;
 use rules::{Refusal, Wire};
 use std::io::Print;
 use std::rt::Files;
+use words::Word;
 
 // Room for so many runs.
 const ROOM: usize = 1000;
@@ -126,7 +127,7 @@ pub fn show_files(
         None,
         &new[..n],
         None,
-        Wire(words::wide(0)),
+        Wire(Word::from(0)),
     );
     FilesCompared {
         old: m,

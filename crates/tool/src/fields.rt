@@ -50,8 +50,8 @@ fn show_patterns(rt: &impl Print, bits: u32, care: &[u16], value: &[u16]) {
 
 fn show_pattern(rt: &impl Print, bits: u32, care: u16, value: u16) {
     let rule = Rule {
-        care: words::wide(care as u64),
-        value: words::wide(value as u64),
+        care: Word::from(u64::from(care)),
+        value: Word::from(u64::from(value)),
         decision: 0,
     };
     lines::pattern(rt, bits, rule);

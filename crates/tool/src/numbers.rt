@@ -7,7 +7,7 @@ use words::Word;
 // The number that word i after place `at` stands for; none where it is no number, and then a line says so. A number that is not named is 0.
 pub(crate) fn number_at(rt: &(impl Env + Print), at: usize, i: Option<usize>) -> Option<Word> {
     let Some(i) = i else {
-        return Some(words::wide(0));
+        return Some(Word::from(0));
     };
     let mut space = [0u8; host::NAME_ROOM];
     let n = host::word(rt, places::place(at, i), &mut space);

@@ -2,7 +2,7 @@
 use crate::commands::Request;
 use crate::{lines, lists, slices, squeezing};
 use command_line::Command;
-use rules::{Hit, Reason, Refusal};
+use rules::{Hit, Reason, Refusal, RuleList};
 use std::io::Print;
 use swaps::Swap;
 
@@ -22,9 +22,11 @@ pub(crate) fn ask(rt: &impl Print, image: &[u8], id: u16, request: Request) {
         Ok(n) => answered(
             rt,
             image,
-            slices::words(&care, n),
-            slices::words(&value, n),
-            slices::first(&decision, n),
+            RuleList {
+                care: slices::words(&care, n),
+                value: slices::words(&value, n),
+                decision: slices::first(&decision, n),
+            },
             request,
         ),
         Err(x) => lines::refusal(rt, x),
@@ -34,26 +36,24 @@ pub(crate) fn ask(rt: &impl Print, image: &[u8], id: u16, request: Request) {
 fn answered(
     rt: &impl Print,
     image: &[u8],
-    care: &[u64],
-    value: &[u64],
-    decision: &[u16],
+    rules: RuleList,
     request: Request,
 ) {
     let width = image_form::byte_at(image, 1) as u32;
     match request.command {
         Command::Lookup => answer(
             rt,
-            rules::lookup(width, care, value, decision, request.header),
+            rules::lookup(width, rules, request.header),
         ),
-        Command::Runs => runs(rt, width, care, value, decision),
-        Command::Prune => squeezing::prune(rt, width, care, value, decision),
-        _ => show_rules(rt, width, care, value, decision),
+        Command::Runs => runs(rt, width, rules),
+        Command::Prune => squeezing::prune(rt, width, rules),
+        _ => show_rules(rt, width, rules),
     }
 }
 
-fn show_rules(rt: &impl Print, width: u32, care: &[u64], value: &[u64], decision: &[u16]) {
-    for i in 0..decision.len() {
-        lines::rule(rt, width, rules::rule_at(care, value, decision, i));
+fn show_rules(rt: &impl Print, width: u32, rules: RuleList) {
+    for i in 0..rules.decision.len() {
+        lines::rule(rt, width, rules::rule_at(rules, i));
         lines::byte(rt, b'\n');
     }
 }
@@ -72,12 +72,12 @@ fn show_hit(rt: &impl Print, hit: Hit) {
     lines::named(rt, b" rule ", hit.number);
 }
 
-fn runs(rt: &impl Print, width: u32, care: &[u64], value: &[u64], decision: &[u16]) {
+fn runs(rt: &impl Print, width: u32, rules: RuleList) {
     let mut sizes = [0u16; 1024];
-    match weaving::runs(width, care, value, decision, &mut sizes) {
+    match weaving::runs(width, rules, &mut sizes) {
         Ok(n) => {
             show_sizes(rt, slices::first(&sizes, n));
-            show_order(rt, width, care, value, decision);
+            show_order(rt, width, rules);
         }
         Err(x) => lines::refusal(rt, x),
     }
@@ -91,8 +91,8 @@ fn show_sizes(rt: &impl Print, sizes: &[u16]) {
 }
 
 // The prefix bit-swap, or the first two rules that cross.
-fn show_order(rt: &impl Print, width: u32, care: &[u64], value: &[u64], decision: &[u16]) {
-    match prefixes::prefix_swap(width, care, value, decision) {
+fn show_order(rt: &impl Print, width: u32, rules: RuleList) {
+    match prefixes::prefix_swap(width, rules) {
         Ok(swap) => show_swap(rt, swap),
         Err(x) => crossing(rt, x),
     }

@@ -3,7 +3,7 @@ use crate::commands::Request;
 use crate::{files, lines, lists, slices};
 use command_line::Command;
 use pruning::Tally;
-use rules::Refusal;
+use rules::{Refusal, RuleList};
 use std::io::Print;
 use std::rt::{Env, Files};
 
@@ -59,23 +59,28 @@ fn merges(rt: &impl Print, merged: usize) {
 }
 
 // What becomes of a list that is pruned: the counts, and a line for each rule that is kept.
-pub(crate) fn prune(rt: &impl Print, width: u32, care: &[u64], value: &[u64], decision: &[u16]) {
+pub(crate) fn prune(rt: &impl Print, width: u32, rules: RuleList) {
     let mut cares = [0u64; 2048];
     let mut values = [0u64; 2048];
     let mut decisions = [0u16; 1024];
     let mut headers = [0u64; 2048];
     let pruned = pruning::prune(
         width,
-        care,
-        value,
-        decision,
+        rules,
         &mut cares,
         &mut values,
         &mut decisions,
         &mut headers,
     );
     match pruned {
-        Ok(t) => show_kept(rt, width, t, &cares, &values, &decisions, &headers),
+        Ok(t) => {
+            let kept = RuleList {
+                care: &cares,
+                value: &values,
+                decision: &decisions,
+            };
+            show_kept(rt, width, t, kept, &headers);
+        }
         Err(x) => lines::refusal(rt, x),
     }
 }
@@ -85,16 +90,14 @@ fn show_kept(
     rt: &impl Print,
     width: u32,
     tally: Tally,
-    care: &[u64],
-    value: &[u64],
-    decision: &[u16],
+    rules: RuleList,
     header: &[u64],
 ) {
     let kept = tally.kept;
     counts(rt, kept, tally.dropped);
     lines::byte(rt, b'\n');
     for i in 0..kept {
-        lines::rule(rt, width, rules::rule_at(care, value, decision, i));
+        lines::rule(rt, width, rules::rule_at(rules, i));
         lines::needed(rt, words::word_at(header, i));
     }
 }
