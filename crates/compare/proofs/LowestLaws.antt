@@ -197,7 +197,3 @@ zero-there h k p a ep ea t =
 pub one-there : (h k p a : ℕ) → p ≡ 2 ^ k → a ≡ bit_and h p → eqb a 0 ≡ false → bit h k ≡ 1
 one-there h k p a ep ea t =
     ⊎_elim (λ z. absurd (no_eqb a 0 t (ea ∙ ap (bit_and h) ep ∙ and_pow h k ∙ ap (λ (x : ℕ). x * 2 ^ k) z ∙ omega arith))) (λ o. o) (zero-or-one (bit h k) (bit<2 h k))
-
--- a place by another number
-pub lowered-next : (f g : ℕ → ℕ) (c v j k h : ℕ) → j ≡ k → Lowered f g c v j h → Lowered f g c v k h
-lowered-next f g c v j k h e L = subst (λ (x : ℕ). Lowered f g c v x h) e L

@@ -59,9 +59,6 @@ module _ (w : ℕ) (cs vs ds : List ℕ) (i : ℕ) (S : Sound w cs vs ds) (insid
   pub in-values : i < length (words_of vs)
   in-values = omega (arith, words-length vs, S.lent.values, S.lent.decisions)
 
-  pub in-few : i < 1024
-  in-few = omega (arith, S.few)
-
   the-rule : rule_at rs i ≡ record { care = c; value = v; decision = get_or ds i 0 }
   the-rule =
       sym (rule-inside cs vs ds i (omega (arith, S.lent.decisions)) (omega (arith, S.lent.values, S.lent.decisions)) inside)

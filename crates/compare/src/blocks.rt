@@ -11,8 +11,8 @@ ghost use Rattle.compare.specs.Sweep.{Differs, Known, Shaped, Loose, Settled, Pa
 use crate::engine::{above, after, is_full, read};
 use crate::engine_cubes::{differs, only};
 use crate::engine_sets::{Cube, answer, last_of, narrow, next, start as before_all};
-use bits::{and, leading_zeros, lowest, or, single, without, xor};
-use words::{Word, is_zero, less, same};
+use bits::{leading_zeros, lowest, single, without};
+use words::{Word, is_zero, less};
 
 // The parts of a block that are swept: blocks of 2^k headers, one that starts at `low` and one at `high`, which may be the same
 // one. `known` is a difference.
@@ -58,7 +58,7 @@ pub(crate) fn ask(
     if less(last_of(cube), start) {
         return None;
     }
-    if same(and(known, cube.care), cube.value) {
+    if known & cube.care == cube.value {
         return Some(known);
     }
     differs(oc, ov, od, ol, om, nc, nv, nd, nl, nm, cube, false)
@@ -160,11 +160,12 @@ fn loose(care: &[u64], value: &[u64], live: &[u64; 17], h: Word, top: Word) -> W
     let all = lowest(128);
     let mut places = Word { low: 0, high: 0 };
     let mut s = next(live, before_all(live), 0, n);
+    // No range counts these steps: `next` follows the set bits.
     while s.at < n {
         let i = s.at;
         let open = without(all, read(care, i));
-        places = or(places, or(open, xor(read(value, i), h)));
-        if !is_zero(and(places, top)) {
+        places = places | (open | (read(value, i) ^ h));
+        if !is_zero(places & top) {
             return all;
         }
         s = next(live, s, i + 1, n);
@@ -200,7 +201,7 @@ fn loose_places(
     if is_full(old) {
         return old;
     }
-    or(old, loose(nc, nv, nl, h, top))
+    old | loose(nc, nv, nl, h, top)
 }
 
 // The parts of the block of 2^k headers from `base` on that are to be swept, where a difference may have another value than the
@@ -209,9 +210,9 @@ fn parts_of(base: Word, k: u32, h: Word, places: Word) -> Parts
     requires { Block (num base) k × (0 < k) × (num base ≤ num h) × (num h < num base + 2 ^ k) }
     ensures { (result.known ≡ h) × ((u v : ℕ → ℕ) → Settled u v (num h) (num places) → Parted u v (num base) k result) }
 {
-    let t = 128 - leading_zeros(and(places, lowest(k)));
+    let t = 128 - leading_zeros(places & lowest(k));
     if t < k {
-        let at = and(h, above(t));
+        let at = h & above(t);
         return Parts {
             k: t,
             low: at,

@@ -13,7 +13,7 @@ ghost use Rattle.compare.specs.Needed.{lowest_change, needed_reply, needed_in};
 use crate::engine::{above, place, read};
 use crate::engine_cubes::differs;
 use crate::engine_sets::{Cube, narrow};
-use bits::{and, or, without};
+use bits::without;
 use rules::{Refusal, RuleList, Wire, check_list};
 use words::{Word, is_zero};
 
@@ -37,16 +37,16 @@ fn lower(
         (num cube.care) (num cube.value) k (num result) }
 {
     let p = place(k);
-    if is_zero(and(h, p)) {
+    if is_zero(h & p) {
         return h;
     }
-    if !is_zero(and(cube.care, p)) {
+    if !is_zero(cube.care & p) {
         return h;
     }
-    let fixed = or(cube.care, above(k));
+    let fixed = cube.care | above(k);
     let part = Cube {
         care: fixed,
-        value: and(without(h, p), fixed),
+        value: without(h, p) & fixed,
     };
     differs(
         care, value, decision, with, 65535, care, value, decision, but, 65535, part, false,
@@ -84,7 +84,7 @@ fn leave_out(live: &mut [u64; 17], i: usize)
     requires { (live.old ≡ replicate 17 18446744073709551615) × (i < 1024) }
     ensures { AllBut live.new i }
 {
-    live[i / 64 + 1] = 18446744073709551615 - (1u64 << (i % 64));
+    live[i / 64 + 1] = u64::MAX - (1u64 << (i % 64));
 }
 
 // The lowest header whose answer changes when the rule at position i is taken from a list that has passed its checks.
@@ -93,7 +93,7 @@ fn lowest_change(width: u32, rules: RuleList, i: usize) -> Option<Word>
     ensures { found_list result ≡ lowest_change width (rules_in rules.entry) i }
 {
     let cube = Cube {
-        care: or(read(rules.care, i), above(width)),
+        care: read(rules.care, i) | above(width),
         value: read(rules.value, i),
     };
     let all = [u64::MAX; 17];

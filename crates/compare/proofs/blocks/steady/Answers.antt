@@ -1,11 +1,7 @@
 use mathlib.Core.Path.{sym, ◌∙◌}
-use mathlib.Core.Bool.{false≢true}
 use Rattle.compare.proofs.EngineRules.{next-spotted}
 use Rattle.compare.proofs.SweepSteps.{steady-only, nothing-answers, nothing-ready, steady-engine}
 use Rattle.compare.proofs.blocks.steady.Goals as goal
-
-pub only-requires : goal.only-requires
-only-requires c = let E = next-spotted c.requires.0.decisions c.next-s.ensures in (c.requires.0, c.requires.1, E.1)
 
 pub returns-then-only : goal.returns-then-only
 returns-then-only c = λ e. let E = next-spotted c.requires.0.decisions c.next-s.ensures in steady-only _ _ _ _ _ _ _ _ _ E.0.after E.0.few E.0.none (c.only.ensures c.if-only.true)

@@ -1,32 +1,16 @@
 use Prim.Native.Nat.{◌<◌}
-use mathlib.Core.Bool.{false≢true}
 use lib.ListN.{length}
 use Rattle.words.proofs.Tests.{eqb_yes}
 use Rattle.words.specs.Slices.{words_of}
 use Rattle.compare.proofs.EngineRules.{next-in}
-use Rattle.compare.proofs.EngineLockstep.{through-start, through-more, through-cover, only-miss}
+use Rattle.compare.proofs.EngineLockstep.{through-more, through-cover, only-miss}
 use native.Mathlib.Omega.{arith}
 use Rattle.compare.proofs.engine_cubes.only.Goals as goal
-
-pub loop-t-init : goal.loop-t-init
-loop-t-init c = (through-start _ _ _ _ _ _ _ _ _, c.requires.2.few, c.requires.2.found, c.requires.2.more)
-
-pub returns-then-decision-i : goal.returns-then-decision-i
-returns-then-decision-i c = λ e. absurd (false≢true e)
-
-pub rule_spans-requires : goal.rule_spans-requires
-rule_spans-requires c = let l : c.loop-t.t.at < length (words_of c.args.care.now) = omega (arith, c.loop-t-test.true, c.requires.0.decisions) in l
 
 pub returns-then-rule_spans : goal.returns-then-rule_spans
 returns-then-rule_spans c = λ e. let l : c.loop-t.t.at < length (words_of c.args.care.now) = omega (arith, c.loop-t-test.true, c.requires.0.decisions) in
     let L = c.loop-t in
     through-cover _ _ _ _ _ _ _ _ _ L.t.at L.invariant.0 c.requires.0 c.requires.1 (L.invariant.2 l) l c.if-decision-i.false (c.rule_spans.ensures.0 c.if-rule_spans.true)
-
-pub next-t-requires : goal.next-t-requires
-next-t-requires c = let l : c.loop-t.t.at < length (words_of c.args.care.now) = omega (arith, c.loop-t-test.true, c.requires.0.decisions) in (c.loop-t.invariant.3 l, omega arith, omega (arith, c.requires.0.few, c.requires.0.decisions))
-
-pub loop-t-smaller : goal.loop-t-smaller
-loop-t-smaller c = let l : c.loop-t.t.at < length (words_of c.args.care.now) = omega (arith, c.loop-t-test.true, c.requires.0.decisions) in omega (arith, c.next-t.ensures.0.after)
 
 pub loop-t-preserved : goal.loop-t-preserved
 loop-t-preserved c = let l : c.loop-t.t.at < length (words_of c.args.care.now) = omega (arith, c.loop-t-test.true, c.requires.0.decisions) in

@@ -1,10 +1,9 @@
 use Prim.Native.Nat.{◌*◌, ◌<◌}
-use lib.Count.{trailing_le, count_trailing_zeros}
+use lib.Count.{count_trailing_zeros}
 use lib.ListN.{length}
 use Rattle.words.specs.Slices.{words_of}
 use Rattle.words.proofs.SliceLaws.{words-length}
-use Rattle.compare.proofs.EngineWords.{fewer}
-use Rattle.compare.proofs.EngineSieve.{sieve-start, sieve-end, sieve-past, sieve-word, sieve-there, sieve-on, like-narrowed, like-kept}
+use Rattle.compare.proofs.EngineSieve.{sieve-end, sieve-past, sieve-word, sieve-there, sieve-on, like-narrowed, like-kept}
 use native.Mathlib.Omega.{arith}
 use Rattle.compare.proofs.engine_sets.narrow.Goals as goal
 use Rattle.compare.proofs.engine_sets.narrow.Goals.{Else-w-n}
@@ -12,15 +11,6 @@ use Rattle.compare.proofs.engine_sets.narrow.Goals.{Else-w-n}
 -- A group of 64 rules that the test lets through begins at one of the rules.
 inside : (c : Else-w-n) → count_trailing_zeros 64 c.loop-some.some * 64 < length (words_of c.args.care.now)
 inside c = omega (arith, c.if-w-n.false, words-length c.args.care.now)
-
-pub loop-some-init : goal.loop-some-init
-loop-some-init c = let p = c.requires in sieve-start _ _ _ _ _ _ p.3 p.4
-
-pub overflow_cast-w : goal.overflow_cast-w
-overflow_cast-w c = omega (arith, trailing_le 64 c.loop-some.some)
-
-pub overflow_mul-w : goal.overflow_mul-w
-overflow_mul-w c = omega (arith, trailing_le 64 c.loop-some.some)
 
 pub returns-then-w-n : goal.returns-then-w-n
 returns-then-w-n c = sieve-past _ _ _ _ _ _ _ c.loop-some.invariant (omega (arith, c.if-w-n.true, words-length c.args.care.now))
@@ -44,12 +34,6 @@ put_word-requires c =
 
 pub returns-then-p : goal.returns-then-p
 returns-then-p c = like-narrowed _ _ _ _ c.put_word.ensures.1 _ _ _ (c.sift-p.ensures.0 c.if-p.true)
-
-pub overflow_sub-some : goal.overflow_sub-some
-overflow_sub-some c = omega (arith, c.loop-some-test.true)
-
-pub loop-some-smaller : goal.loop-some-smaller
-loop-some-smaller c = fewer c.loop-some.some c.loop-some-test.true
 
 pub loop-some-preserved : goal.loop-some-preserved
 loop-some-preserved c =

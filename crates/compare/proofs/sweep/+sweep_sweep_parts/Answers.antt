@@ -8,10 +8,10 @@ use Rattle.compare.specs.EngineSets.{answer_of}
 use Rattle.compare.specs.Sweep.{Sweeps}
 use Rattle.compare.proofs.EngineBlocks.{block-few}
 use Rattle.compare.proofs.EngineMembers.{none-member}
-use Rattle.compare.proofs.SweepSteps.{block-valid, block_last, known_at, known-none, goes-piece, goes_parts, block-piece, block-parts, swept_as, parts-start, parts-less, parts-few, parts-room, parts-stop, parts-end, parts_next}
+use Rattle.compare.proofs.SweepSteps.{block-valid, block_last, known_at, known-none, goes-piece, goes_parts, block-piece, block-parts, swept_as, parts-start, parts-few, parts-room, parts-stop, parts-end, parts_next}
 use native.Mathlib.Omega.{arith}
 use Rattle.compare.proofs.sweep.+sweep_sweep_parts.Goals as goal
-use Rattle.compare.proofs.sweep.+sweep_sweep_parts.Goals.{sweep_parts-After-same, sweep_parts-in-Some+in-Continue, sweep_parts-in_default}
+use Rattle.compare.proofs.sweep.+sweep_sweep_parts.Goals.{sweep_parts-After-eq, sweep_parts-in-Some+in-Continue, sweep_parts-in_default}
 
 pub sweep-way_of-requires : goal.sweep-way_of-requires
 sweep-way_of-requires t c = (c.requires.0, c.requires.1, c.requires.2, c.requires.3, refl, none-member, refl, none-member)
@@ -38,9 +38,6 @@ sweep_parts-above-requires t c = block-few _ _ c.requires.2.lower
 pub sweep_parts-loop-h-init : goal.sweep_parts-loop-h-init
 sweep_parts-loop-h-init t c = parts-start _ _ _ c.args.p c.requires.2 _ _ _ _ _ _ c.above.ensures refl c.requires.5
 
-pub sweep_parts-ask-requires : goal.sweep_parts-ask-requires
-sweep_parts-ask-requires t c = (c.requires.0, c.requires.1, c.loop-h.invariant.block, c.requires.3)
-
 pub sweep_parts-sweep-requires : goal.sweep_parts-sweep-requires
 sweep_parts-sweep-requires t c = (omega (arith, c.decreases), (c.requires.0, c.requires.1, c.loop-h.invariant.block, known_at _ _ _ _ _ _ c.in-Some.ensures, parts-room _ _ _ c.args.p c.requires.2 _ _ _ _ _ _ _ _ _ _ _ c.loop-h.invariant c.requires.4, parts-few _ _ _ c.args.p c.requires.2 _ _ _ _ _ _ _ _ _ _ _ c.loop-h.invariant))
 
@@ -48,7 +45,7 @@ pub sweep_parts-returns-in-Break : goal.sweep_parts-returns-in-Break
 sweep_parts-returns-in-Break t c = parts-stop _ _ _ c.args.p c.requires.2 _ _ _ _ _ _ _ _ _ _ _ c.loop-h.invariant _ _ _ _ _ c.in-Break.ensures
 
 -- the part that is looked at is swept
-part-swept : (t : ℕ) (c : sweep_parts-After-same t) → let a = c.args in let l = c.loop-h in
+part-swept : (t : ℕ) (c : sweep_parts-After-eq t) → let a = c.args in let l = c.loop-h in
     Sweeps (answer_of (words_of a.oc.now) (words_of a.ov.now) a.od.now a.ol.now a.om) (answer_of (words_of a.nc.now) (words_of a.nv.now) a.nd.now a.nl.now a.nm)
     (num a.start) (num l.part.value) (num l.part.value + 2 ^ a.p.k)
     l.first l.last l.old_answer l.new_answer c.match-ask.first c.match-ask.last c.match-ask.old_answer c.match-ask.new_answer l.m (Continue c.match-ask.m)
@@ -59,15 +56,12 @@ part-swept t c = elim c.match-ask.branch [
       (parts-few _ _ _ _ c.requires.2 _ _ _ _ _ _ _ _ _ _ _ c.loop-h.invariant)) v.first-is v.last-is v.old_answer-is v.new_answer-is v.m-is
 ]
 
-pub sweep_parts-returns-then-same : goal.sweep_parts-returns-then-same
-sweep_parts-returns-then-same t c =
+pub sweep_parts-returns-then-eq : goal.sweep_parts-returns-then-eq
+sweep_parts-returns-then-eq t c =
     parts-end _ _ _ c.args.p c.requires.2 _ _ _ _ _ _ _ _ _ _ _ c.loop-h.invariant _ _ _ _ _
-    (part-swept t (goal.at.sweep_parts-returns-then-same t c).After-same) (eqb_yes _ _ (sym c.same.ensures ∙ c.if-same.true))
-
-pub sweep_parts-loop-h-smaller : goal.sweep_parts-loop-h-smaller
-sweep_parts-loop-h-smaller t c = parts-less _ _ _ c.args.p c.requires.2 _ _ _ _ _ _ _ _ _ _ _ c.loop-h.invariant (no_eqb _ _ (sym c.same.ensures ∙ c.if-same.false)) _ refl
+    (part-swept t (goal.at.sweep_parts-returns-then-eq t c).After-eq) (eqb_yes _ _ (sym c.eq.ensures ∙ c.if-eq.true))
 
 pub sweep_parts-loop-h-preserved : goal.sweep_parts-loop-h-preserved
 sweep_parts-loop-h-preserved t c =
     parts_next _ _ _ c.args.p c.requires.2 _ _ _ _ _ _ _ _ _ _ _ c.loop-h.invariant _ _ _ _ _
-    (part-swept t (goal.at.sweep_parts-loop-h-preserved t c).After-same) (no_eqb _ _ (sym c.same.ensures ∙ c.if-same.false)) _ refl refl
+    (part-swept t (goal.at.sweep_parts-loop-h-preserved t c).After-eq) (no_eqb _ _ (sym c.eq.ensures ∙ c.if-eq.false)) _ refl refl
