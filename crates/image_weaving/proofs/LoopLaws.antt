@@ -4,26 +4,16 @@ use mathlib.Core.List.{List}
 use Prim.Native.Nat.{ℕ, ◌≤◌}
 use native.Mathlib.Omega.{arith}
 use lib.ListN.{length}
-use Rattle.rules.specs.declared.Refusal.{Refusal}
-use Rattle.image.specs.declared.NumberAnswer.{NumberAnswer}
 use Rattle.image_form.specs.Images.{count_in}
 use Rattle.image_writer.specs.Writing.{sum_of, lists_from}
 use Rattle.image_weaving.specs.declared.Squeeze.{Squeeze}
 use Rattle.image_weaving.specs.Squeezing.{squeezed_lists}
-use Rattle.image_weaving.specs.Parts.{RoomForAll, ListsSqueezed, SqueezedUpTo}
+use Rattle.image_weaving.specs.Parts.{RoomForAll, ListsSqueezed}
 
 -- before the first
 pub none-squeezed : (z : Squeeze) (b ids ns cs vs ds : List ℕ) → ListsSqueezed z b 0 0 ids ns cs vs ds
 unfolding sum_of lists_from squeezed_lists
 none-squeezed z b ids ns cs vs ds = record { fits = omega arith; sums = refl; lists = refl }
-
-module _ (z : Squeeze) (b : List ℕ) (k : ℕ) (r : NumberAnswer) (ids ns cs vs ds : List ℕ) (W : SqueezedUpTo z b k r ids ns cs vs ds) where
-  -- it is not refused
-  pub up-not-refused : {x : Refusal} → r ≡ NumberAnswer.Refused x → ⊥
-  up-not-refused e = subst (λ (o : NumberAnswer). SqueezedUpTo z b k o ids ns cs vs ds) e W
-
-  pub up-squeezed : (n : ℕ) → r ≡ NumberAnswer.Number n → ListsSqueezed z b k n ids ns cs vs ds
-  up-squeezed n e = subst (λ (o : NumberAnswer). SqueezedUpTo z b k o ids ns cs vs ds) e W
 
 -- slices that are as long as before are as ready
 pub still-ready : (b ids ns cs vs ds ids' ns' cs' vs' ds' : List ℕ) → RoomForAll b ids ns cs vs ds → length ids' ≡ length ids → length ns' ≡ length ns
