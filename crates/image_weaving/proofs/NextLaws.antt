@@ -79,6 +79,11 @@ module _ (b : List ℕ) (h : AreBytes b) (f : image_check b ≡ passed) where
           (read-gives b k f below id (e ∙ place-id) (cares_of rs) (values_of rs) (decisions_of rs)
           (lent-passes (cares_of rs) (values_of rs) (decisions_of rs) (columns-lent rs)) (omega (arith, length-column decision_of rs)))
 
+-- before the first list, nothing is squeezed
+pub none-squeezed : (z : Squeeze) (b ids ns cs vs ds : List ℕ) → ListsSqueezed z b 0 0 ids ns cs vs ds
+unfolding sum_of lists_from squeezed_lists
+none-squeezed z b ids ns cs vs ds = record { fits = omega arith; sums = refl; lists = refl }
+
 -- ---- one list more behind others
 
 cut-more : (is ns : List ℕ) (rs : List Rule) (i : ℕ) (xs : List Rule) → length ns ≡ length is → sum_of ns ≡ length rs

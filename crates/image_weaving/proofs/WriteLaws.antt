@@ -30,11 +30,6 @@ use Rattle.image_weaving.specs.Parts.{RoomForAll, ListsSqueezed}
 use Rattle.image_weaving.proofs.SqueezedLaws.{length-squeezed, squeezed-carried}
 use Rattle.image_weaving.proofs.NextLaws.{accepted-carried, accepted-few}
 
--- numbers that are bytes one by one are bytes
-pub all-bytes : (b : List ℕ) → ((i : ℕ) → get_or b i 0 < 256) → AreBytes b
-all-bytes [] f = tt
-all-bytes (x ∷ b) f = (f 0, all-bytes b (λ i. f (suc i)))
-
 pub some_bytes : (b : List ℕ) → image_check b ≡ passed → 4 ≤ length b
 some_bytes b f = (image-facts b [] f).head.least
 
@@ -44,12 +39,6 @@ unfolding squeeze_image_reply
 image-refused z b out r x up p =
     record { answer = stop-up _ r _ _ x up p; bytes = same-refused (squeeze_image_reply z b out) x _ out (then-stop (image_check b) _ x (sym p)) }
 
--- slices as long as they are made are ready
-pub made-ready : (b ids ns cs vs ds : List ℕ) → image_check b ≡ passed → ((i : ℕ) → get_or b i 0 < 256) → length ids ≡ 16 → length ns ≡ 16
-    → length cs ≡ 7280 → length vs ≡ 7280 → length ds ≡ 3640 → RoomForAll b ids ns cs vs ds
-made-ready b ids ns cs vs ds f h i n c v d =
-    record { accepted = f; bytes = all-bytes b h; ids = i; counts = n; cares = c; values = v; decisions = d }
-
 -- all lists are squeezed
 module _ (z : Squeeze) (b : List ℕ) (n : ℕ) (ids ns cs vs ds : List ℕ) (U : ListsSqueezed z b (count_in b) n ids ns cs vs ds × RoomForAll b ids ns cs vs ds) where
   ready : RoomForAll b ids ns cs vs ds
@@ -57,10 +46,6 @@ module _ (z : Squeeze) (b : List ℕ) (n : ℕ) (ids ns cs vs ds : List ℕ) (U 
 
   done : ListsSqueezed z b (count_in b) n ids ns cs vs ds
   done = U.0
-
-  -- how many of the places are taken
-  pub end_fits : n ≤ 3640
-  end_fits = done.fits
 
   module _ (k : ℕ) (same : k ≡ count_in b) where
     pub room-ids : k ≤ length ids
@@ -75,22 +60,22 @@ module _ (z : Squeeze) (b : List ℕ) (n : ℕ) (ids ns cs vs ds : List ℕ) (U 
     pub long-counts : k ≡ length (take k ns)
     long-counts = sym (length-take-le k ns room-counts)
 
-  pub room-cares : n * 2 ≤ length cs
+  room-cares : n * 2 ≤ length cs
   room-cares = omega (arith, ready.cares, done.fits)
 
-  pub room-values : n * 2 ≤ length vs
+  room-values : n * 2 ≤ length vs
   room-values = omega (arith, ready.values, done.fits)
 
-  pub room-decisions : n ≤ length ds
+  room-decisions : n ≤ length ds
   room-decisions = omega (arith, ready.decisions, done.fits)
 
-  pub long-cares : n * 2 ≡ length (take (n * 2) cs)
+  long-cares : n * 2 ≡ length (take (n * 2) cs)
   long-cares = sym (length-take-le (n * 2) cs room-cares)
 
-  pub long-values : n * 2 ≡ length (take (n * 2) vs)
+  long-values : n * 2 ≡ length (take (n * 2) vs)
   long-values = sym (length-take-le (n * 2) vs room-values)
 
-  pub long-decisions : n ≡ length (take n ds)
+  long-decisions : n ≡ length (take n ds)
   long-decisions = sym (length-take-le n ds room-decisions)
 
   abbrev lists : List Named

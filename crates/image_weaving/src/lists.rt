@@ -75,21 +75,15 @@ pub(crate) fn squeeze_list(
     ensures { ListSqueezed squeeze image.now id result
         care.new value.new decision.new }
 {
-    let mut read_care = [0; 2048];
-    let mut read_value = [0; 2048];
-    let mut read_decision = [0; 1024];
-    let n = read(
-        image,
-        id,
-        &mut read_care,
-        &mut read_value,
-        &mut read_decision,
-    )?;
+    let mut cares = [0; 2048];
+    let mut values = [0; 2048];
+    let mut decisions = [0; 1024];
+    let n = read(image, id, &mut cares, &mut values, &mut decisions)?;
     let halves = n * 2;
     let rules = RuleList {
-        care: &read_care[..halves],
-        value: &read_value[..halves],
-        decision: &read_decision[..n],
+        care: &cares[..halves],
+        value: &values[..halves],
+        decision: &decisions[..n],
     };
     let width = byte_at(image, 1) as u32;
     Ok(squeeze_rules(squeeze, width, rules, care, value, decision))

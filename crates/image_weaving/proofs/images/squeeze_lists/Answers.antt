@@ -1,4 +1,4 @@
-use Rattle.image_weaving.proofs.LoopLaws.{none-squeezed}
+use Rattle.image_weaving.proofs.NextLaws.{none-squeezed}
 use Rattle.image_weaving.proofs.images.squeeze_lists.Goals as goal
 
 pub loop-k-init : goal.loop-k-init

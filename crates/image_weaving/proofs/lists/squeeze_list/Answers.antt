@@ -12,14 +12,14 @@ returns-in_err-n c = list-refused _ _ _ _ _ _ _ _ c.from_residual.ensures.1 (rea
 pub overflow_mul-halves : goal.overflow_mul-halves
 overflow_mul-halves c = omega (arith, read-few _ _ _ _ _ _ _ _ _ c.in_ok-n.ensures _ refl)
 
-pub slice_bounds-read_care-end : goal.slice_bounds-read_care-end
-slice_bounds-read_care-end c = omega (arith, read-few _ _ _ _ _ _ _ _ _ c.in_ok-n.ensures _ refl)
+pub slice_bounds-cares-end : goal.slice_bounds-cares-end
+slice_bounds-cares-end c = omega (arith, read-few _ _ _ _ _ _ _ _ _ c.in_ok-n.ensures _ refl)
 
-pub slice_bounds-read_value-end : goal.slice_bounds-read_value-end
-slice_bounds-read_value-end c = omega (arith, read-few _ _ _ _ _ _ _ _ _ c.in_ok-n.ensures _ refl)
+pub slice_bounds-values-end : goal.slice_bounds-values-end
+slice_bounds-values-end c = omega (arith, read-few _ _ _ _ _ _ _ _ _ c.in_ok-n.ensures _ refl)
 
-pub slice_bounds-read_decision-end : goal.slice_bounds-read_decision-end
-slice_bounds-read_decision-end c = omega (arith, read-few _ _ _ _ _ _ _ _ _ c.in_ok-n.ensures _ refl)
+pub slice_bounds-decisions-end : goal.slice_bounds-decisions-end
+slice_bounds-decisions-end c = omega (arith, read-few _ _ _ _ _ _ _ _ _ c.in_ok-n.ensures _ refl)
 
 pub slice_bounds-rules-end : goal.slice_bounds-rules-end
 slice_bounds-rules-end c = sym (length-take-le _ _ (omega (arith, read-few _ _ _ _ _ _ _ _ _ c.in_ok-n.ensures _ refl)))
