@@ -48,13 +48,13 @@ fn on_file(
     id: Option<usize>,
     header: Option<usize>,
 ) {
-    if let Some(request) = request(rt, at, wanted, id, header) {
+    if let Some(request) = named_numbers(rt, at, wanted, id, header) {
         images::on_file(rt, at, request);
     }
 }
 
 // The numbers that the command names; none where a word of them is no number, and then a line says so.
-fn request(
+fn named_numbers(
     rt: &(impl Env + Print),
     at: usize,
     wanted: Wanted,
