@@ -1,10 +1,10 @@
 // Checking a list of five-field rules: how long they are, and rule by rule what stands in them (refusals 2, 3, 23, 20 and 5).
-ghost use Rattle.std.specs.Prelude.{◌≡◌, ◌^◌, ◌≤◌, [], ◌∷◌, get_or};
-ghost use Rattle.rules.specs.Replies.{verdict_reply, need, ◌then◌};
+ghost use Rattle.std.specs.Prelude.{◌≡◌, get_or};
+ghost use Rattle.rules.specs.Replies.{verdict_reply};
 ghost use Rattle.rules.specs.Checks.{size_check};
 ghost use Rattle.ranges.specs.Calls.{is_range};
 ghost use Rattle.five_fields.specs.FiveFieldRule.{rule_of};
-ghost use Rattle.five_numbers.specs.Fields.{address_bits, port_bits};
+ghost use Rattle.five_numbers.specs.Fields.{port_bits};
 ghost use Rattle.five_fields.specs.FiveFieldRules.{is_prefix, fields_fit, ports_fit};
 ghost use Rattle.five_fields.specs.Slices.{lent, alike, rule_at, rules_in};
 ghost use Rattle.five_fields.specs.Calls.{five_field_check, five_fields_check, rules_check};
@@ -37,7 +37,7 @@ fn is_range(low: u32, high: u32) -> bool
     low <= high && high < 65536
 }
 
-// Whether both are.
+// Whether both ranges of ports of a rule are such.
 #[tactic(auto, unfolding(crate::specs::FiveFieldRules::ports_fit))]
 fn ports_fit(rule: FiveFieldRule) -> bool
     ensures { result ≡ ports_fit (rule_of rule) }

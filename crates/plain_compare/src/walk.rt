@@ -20,7 +20,7 @@ use words::Word;
 const WIDEST: u32 = 12;
 
 // Refusal 1 of a greater width, then what a comparison of two lists is refused for.
-fn plain_verdict(
+fn check_plain(
     width: u32,
     old: RuleList,
     new: RuleList,
@@ -116,7 +116,7 @@ pub fn compare_plain(
         first.old last.old old_answer.old new_answer.old
         first.new last.new old_answer.new new_answer.new result }
 {
-    plain_verdict(
+    check_plain(
         width,
         old,
         new,

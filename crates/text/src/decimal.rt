@@ -28,6 +28,7 @@ fn digits_at_end(number: Word, space: &mut [u8; 39]) -> usize
 
 // Puts a text at the start of `out`, and answers how many bytes it takes; None where `out` is too short, and then nothing
 // changes.
+#[tactic(auto, unfolding(crate::specs::Put::fitting, rules::specs::Checks::room_check))]
 fn put(text: &[u8], out: &mut [u8]) -> Option<usize>
     ensures { Put (Some text.now) out.old result out.new }
 {

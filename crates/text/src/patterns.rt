@@ -7,6 +7,7 @@ ghost use Rattle.text.specs.Put.{Put};
 use rules::Rule;
 
 // What stands for a place.
+#[tactic(auto, unfolding(crate::specs::Patterns::glyph_at))]
 fn glyph(width: u32, rule: Rule, place: u32) -> u8
     requires { place ≤ width }
     ensures { result ≡ glyph_at width (rule_of rule) place }
