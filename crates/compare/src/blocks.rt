@@ -1,6 +1,6 @@
 // A block of headers of the sweep: whether the two lists differ in it, whether it is one piece, and else which parts of it are to
 // be swept.
-ghost use Rattle.std.specs.Prelude.{◌≡◌, true, false, List, ℕ, ◌+◌, ◌-◌, ◌^◌, ◌<◌, ◌≤◌, length};
+ghost use Rattle.std.specs.Prelude.{◌≡◌, true, false, ℕ, ◌+◌, ◌-◌, ◌^◌, ◌<◌, ◌≤◌, length};
 ghost use Rattle.std.specs.Int.Bits.{bit_and};
 ghost use Rattle.words.specs.Halves.{num, limit};
 ghost use Rattle.compare.specs.EngineSets.{member, ReadyIn, answer_in, answer_with, WithinIn};
@@ -66,7 +66,7 @@ fn steady(side: &Side, a: u16, cube: Cube) -> bool
         return true;
     }
     let nothing = Side {
-        rules: RuleList {
+        rules: &RuleList {
             care: &[],
             value: &[],
             decision: &[],

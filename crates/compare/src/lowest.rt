@@ -72,7 +72,7 @@ fn lowest_change(width: u32, rules: RuleList, i: usize) -> Option<Word>
     let mut others = [u64::MAX; 17];
     leave_out(&mut others, i);
     let whole = Side {
-        rules,
+        rules: &rules,
         live: &all,
         miss: 65535,
     };

@@ -6,7 +6,7 @@ use Rattle.compare.specs.Sweep.{Loose}
 use Rattle.compare.proofs.blocks.loose.Given as goal
 
 abbrev pub invariant-loop-s : goal.invariant-loop-s
-invariant-loop-s l = (l.s.at ≤ count_in l.side) × Loose (words_of l.side.rules.care.now) (words_of l.side.rules.value.now) l.side.live.now (num l.h) l.s.at (num l.places)
+invariant-loop-s l = (l.s.at ≤ count_in l.side) × Loose (words_of l.side.rules.now.care.now) (words_of l.side.rules.now.value.now) l.side.live.now (num l.h) l.s.at (num l.places)
     × (l.s.at < count_in l.side → Pending l.side.live.now l.s.word l.s.left l.s.rest (l.s.at + 1))
 
 abbrev pub decreases-loop-s : goal.decreases-loop-s

@@ -15,8 +15,8 @@ narrow-requires-2 t c = (c.requires.1, refl, none-member)
 pub differs-requires : goal.differs-requires
 differs-requires t c =
     let P = c.requires in
-    let F = c.narrow.ensures.same c.args.old.now.rules.decision.now c.args.old.now.miss in
-    let G = c.narrow-2.ensures.same c.args.new.now.rules.decision.now c.args.new.now.miss in
+    let F = c.narrow.ensures.same c.args.old.now.rules.now.decision.now c.args.old.now.miss in
+    let G = c.narrow-2.ensures.same c.args.new.now.rules.now.decision.now c.args.new.now.miss in
     let T = c.in-Split.ensures in
     let E = holds c.bitor.ensures in (
       split-less _ _ _ _ _ _ F G _ T P.2 _ E t (num-lt c.bitor.result (omega arith) (omega arith)) c.decreases,
@@ -25,14 +25,14 @@ differs-requires t c =
 
 pub returns-in-Some-clause-decided : goal.returns-in-Some-clause-decided
 returns-in-Some-clause-decided t c =
-    say-found _ _ _ _ _ _ (c.narrow.ensures.same c.args.old.now.rules.decision.now c.args.old.now.miss) (c.narrow-2.ensures.same c.args.new.now.rules.decision.now c.args.new.now.miss)
+    say-found _ _ _ _ _ _ (c.narrow.ensures.same c.args.old.now.rules.now.decision.now c.args.old.now.miss) (c.narrow-2.ensures.same c.args.new.now.rules.now.decision.now c.args.new.now.miss)
     _ c.in-Split.ensures c.requires.2 _ (holds c.bitor.ensures) _ c.in-Some.ensures.decided
 
 pub differs-requires-in-Split : goal.differs-requires-in-Split
 differs-requires-in-Split t c =
     let P = c.requires in
-    let F = c.narrow.ensures.same c.args.old.now.rules.decision.now c.args.old.now.miss in
-    let G = c.narrow-2.ensures.same c.args.new.now.rules.decision.now c.args.new.now.miss in
+    let F = c.narrow.ensures.same c.args.old.now.rules.now.decision.now c.args.old.now.miss in
+    let G = c.narrow-2.ensures.same c.args.new.now.rules.now.decision.now c.args.new.now.miss in
     let T = c.in-Split.ensures in
     let E = holds c.bitor.ensures in (
       split-less _ _ _ _ _ _ F G _ T P.2 _ E t (num-lt c.bitor.result (omega arith) (omega arith)) c.decreases,
@@ -41,16 +41,16 @@ differs-requires-in-Split t c =
 
 pub returns-in-Alike-clause-decided : goal.returns-in-Alike-clause-decided
 returns-in-Alike-clause-decided t c =
-    say-same _ _ _ _ _ _ (c.narrow.ensures.same c.args.old.now.rules.decision.now c.args.old.now.miss) (c.narrow-2.ensures.same c.args.new.now.rules.decision.now c.args.new.now.miss) (told_same _ _ _ _ c.in-Alike.ensures)
+    say-same _ _ _ _ _ _ (c.narrow.ensures.same c.args.old.now.rules.now.decision.now c.args.old.now.miss) (c.narrow-2.ensures.same c.args.new.now.rules.now.decision.now c.args.new.now.miss) (told_same _ _ _ _ c.in-Alike.ensures)
 
 pub returns-in-Unlike-clause-decided : goal.returns-in-Unlike-clause-decided
 returns-in-Unlike-clause-decided t c =
-    say-at _ _ _ _ _ _ (c.narrow.ensures.same c.args.old.now.rules.decision.now c.args.old.now.miss) (c.narrow-2.ensures.same c.args.new.now.rules.decision.now c.args.new.now.miss) _ c.requires.2 (told-apart _ _ _ _ c.in-Unlike.ensures)
+    say-at _ _ _ _ _ _ (c.narrow.ensures.same c.args.old.now.rules.now.decision.now c.args.old.now.miss) (c.narrow-2.ensures.same c.args.new.now.rules.now.decision.now c.args.new.now.miss) _ c.requires.2 (told-apart _ _ _ _ c.in-Unlike.ensures)
 
 pub returns-in-Unlike-clause-fits : goal.returns-in-Unlike-clause-fits
 returns-in-Unlike-clause-fits t c = num-lt c.args.cube.value (omega arith) (omega arith)
 
 pub returns-in_default-clause-decided : goal.returns-in_default-clause-decided
 returns-in_default-clause-decided t c =
-    say-both _ _ _ _ _ _ (c.narrow.ensures.same c.args.old.now.rules.decision.now c.args.old.now.miss) (c.narrow-2.ensures.same c.args.new.now.rules.decision.now c.args.new.now.miss)
+    say-both _ _ _ _ _ _ (c.narrow.ensures.same c.args.old.now.rules.now.decision.now c.args.old.now.miss) (c.narrow-2.ensures.same c.args.new.now.rules.now.decision.now c.args.new.now.miss)
     _ c.in-Split.ensures c.requires.2 _ (holds c.bitor.ensures) _ (holds c.bitor-half.ensures) c.in_default.ensures.decided _ c.differs-in-Split.ensures.decided
