@@ -17,7 +17,7 @@ use crate::counts::expansion_count;
 use crate::entries::put_pairs;
 use crate::{FiveFieldRule, FiveFieldRules};
 use ranges::range_prefixes;
-use rules::{Reason, Refusal, refused};
+use rules::{Refusal, RuleList, check_results};
 
 // Puts the words of the prefixes of a range of ports into two slices, and returns how many they are. No range takes more than 30.
 fn put_ports(low: u32, high: u32, cares: &mut [u16], values: &mut [u16]) -> usize
@@ -83,24 +83,6 @@ fn put_all(rules: FiveFieldRules<'_>, care: &mut [u64], value: &mut [u64], decis
     }
 }
 
-// What can be wrong with the lengths of three result slices for n entries: 2, then 7.
-#[tactic(auto, unfolding(rules::specs::Checks::room_check))]
-fn results_verdict(n: usize, cares: usize, values: usize, decisions: usize) -> Result<(), Refusal>
-    requires { decisions * 2 < 2 ^ 64 }
-    ensures { verdict_reply result ≡ (need (eqb cares values && eqb cares (decisions * 2)) 2 0 0 then room_check n decisions) }
-{
-    if cares != values {
-        return refused(Reason::Slices, 0, 0);
-    }
-    if cares != decisions * 2 {
-        return refused(Reason::Slices, 0, 0);
-    }
-    if decisions < n {
-        return refused(Reason::Room, 0, 0);
-    }
-    Ok(())
-}
-
 // The ternary list of five-field rules, in the last three slices: 2 and 3, the rules one by one, 3 for more than 1,024 entries, then 2 and
 // 7 of the result slices; else how many entries it has.
 #[tactic(auto, unfolding(crate::specs::Calls::expand_reply, crate::specs::Calls::expand_check, crate::specs::Calls::count_reply, rules::specs::Checks::lengths_check))]
@@ -114,7 +96,14 @@ pub fn expand(
         care.new value.new decision.new result }
 {
     let n = expansion_count(rules)?;
-    results_verdict(n, care.len(), value.len(), decision.len())?;
+    check_results(
+        n,
+        RuleList {
+            care,
+            value,
+            decision,
+        },
+    )?;
     put_all(rules, care, value, decision);
     Ok(n)
 }
