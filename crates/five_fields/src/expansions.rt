@@ -1,7 +1,6 @@
 // A list of five-field rules as a ternary list.
-ghost use Rattle.std.specs.Prelude.{◌≡◌, true, ◌&&◌, eqb, ◌+◌, ◌*◌, ◌^◌, ◌≤◌, ◌<◌, length};
-ghost use Rattle.rules.specs.Replies.{passed, verdict_reply, need, ◌then◌};
-ghost use Rattle.rules.specs.Checks.{room_check};
+ghost use Rattle.std.specs.Prelude.{◌≡◌, true, ◌+◌, ◌≤◌, length};
+ghost use Rattle.rules.specs.Replies.{passed};
 ghost use Rattle.rules.specs.Slices.{Lent};
 ghost use Rattle.ranges.specs.Calls.{is_range};
 ghost use Rattle.five_fields.specs.FiveFieldRule.{rule_of};
