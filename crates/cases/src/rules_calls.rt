@@ -66,7 +66,10 @@ fn lookup(case: &mut Source, out: &mut String) -> Result<(), Unread> {
 }
 
 fn lookup_number(case: &mut Source, out: &mut String) -> Result<(), Unread> {
-    look_up(case, out, rules::lookup_number)
+    // A closure round the call alone: the check finds no contract of another crate's function that is passed by name.
+    look_up(case, out, |width, rules, header| {
+        rules::lookup_number(width, rules, header)
+    })
 }
 
 fn lookup_swapped(case: &mut Source, out: &mut String) -> Result<(), Unread> {

@@ -36,34 +36,34 @@ fn run(rt: &impl Print, first: Word, last: Word, old: u16, new: u16) {
     say(rt, b"\n");
 }
 
+// Runs of differences, as a comparison leaves them: a header is two numbers of its slice.
+#[derive(Clone, Copy)]
+pub(crate) struct RunList<'a> {
+    pub first: &'a [u64],
+    pub last: &'a [u64],
+    pub old: &'a [u16],
+    pub new: &'a [u16],
+}
+
 // Run number i, counted from 0, where there are answers for it.
-fn run_at(rt: &impl Print, first: &[u64], last: &[u64], old: &[u16], new: &[u16], i: usize) {
-    if i < old.len() {
-        if i < new.len() {
-            run(
-                rt,
-                words::word_at(first, i),
-                words::word_at(last, i),
-                old[i],
-                new[i],
-            );
-        }
+fn run_at(rt: &impl Print, runs: RunList, i: usize) {
+    if i < runs.old.len() && i < runs.new.len() {
+        run(
+            rt,
+            words::word_at(runs.first, i),
+            words::word_at(runs.last, i),
+            runs.old[i],
+            runs.new[i],
+        );
     }
 }
 
 // The first `count` runs; how many lines that were.
-pub(crate) fn runs(
-    rt: &impl Print,
-    first: &[u64],
-    last: &[u64],
-    old: &[u16],
-    new: &[u16],
-    count: usize,
-) -> usize
+pub(crate) fn runs(rt: &impl Print, runs: RunList, count: usize) -> usize
     ensures { result ≡ count }
 {
     for i in 0..count {
-        run_at(rt, first, last, old, new, i);
+        run_at(rt, runs, i);
     }
     count
 }

@@ -3,6 +3,7 @@ ghost use Rattle.std.specs.Prelude.{◌≡◌, ◌≤◌, length};
 ghost use Rattle.words.specs.Halves.{num};
 ghost use Rattle.run_lines.specs.Shown.{FirstShown, ListsShown, FilesShown};
 
+use crate::lines::RunList;
 use crate::{FilesCompared, lines};
 use compare::Compared;
 use rules::{Refusal, Wire};
@@ -20,17 +21,14 @@ const NUMBERS: usize = 2000;
 fn show(
     rt: &impl Print,
     old: &[u8],
-    first: &[u64],
-    last: &[u64],
-    old_answer: &[u16],
-    new_answer: &[u16],
+    runs: RunList,
     compared: Result<Compared, Refusal>,
 ) -> Result<Compared, Refusal>
     ensures { result ≡ compared }
 {
     let c = compared?;
     lines::width(rt, old);
-    let count = lines::runs(rt, first, last, old_answer, new_answer, c.count);
+    let count = lines::runs(rt, runs, c.count);
     let next = lines::ended(rt, c.next, count);
     Ok(Compared { count, next })
 }
@@ -61,7 +59,13 @@ pub fn show_first(
         &mut old_answer,
         &mut new_answer,
     );
-    show(rt, old, &first, &last, &old_answer, &new_answer, c)
+    let runs = RunList {
+        first: &first,
+        last: &last,
+        old: &old_answer,
+        new: &new_answer,
+    };
+    show(rt, old, runs, c)
 }
 
 // The lines of the comparison of the old image's list `old_id` with the new image's list `new_id`, each with its default, from a header
@@ -95,7 +99,13 @@ pub fn show_lists(
         &mut old_answer,
         &mut new_answer,
     );
-    show(rt, old, &first, &last, &old_answer, &new_answer, c)
+    let runs = RunList {
+        first: &first,
+        last: &last,
+        old: &old_answer,
+        new: &new_answer,
+    };
+    show(rt, old, runs, c)
 }
 
 // Reads a file into the start of the slice, and answers how many bytes there are. A file that cannot be opened has none.
