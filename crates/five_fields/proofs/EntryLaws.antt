@@ -42,9 +42,9 @@ address-within c k e = omega (arith, e, pow_pos (address_bits - k))
 -- ---- five numbers as a word
 
 -- `header` answers for numbers of their fields
-pub header-answered : (n : Numbers) (r : Result Wire Refusal) → built_reply r ≡ header_reply n → in_fields n ≡ true → IsOk r
+pub header_answered : (n : Numbers) (r : Result Wire Refusal) → built_reply r ≡ header_reply n → in_fields n ≡ true → IsOk r
 unfolding header_reply
-header-answered n r e w = given-ok _ r (e ∙ then_next _ _ (need-yes _ 6 0 0 w))
+header_answered n r e w = given-ok _ r (e ∙ then_next _ _ (need-yes _ 6 0 0 w))
 
 -- ---- the entry
 

@@ -1,5 +1,5 @@
 // The entries of one rule, put into the result slices: every pair of port prefixes, source first and destination inside.
-ghost use Rattle.std.specs.Prelude.{◌≡◌, true, ◌+◌, ◌*◌, ◌-◌, ◌^◌, ◌≤◌, length, take};
+ghost use Rattle.std.specs.Prelude.{◌≡◌, true, ◌+◌, ◌*◌, ◌-◌, ◌^◌, ◌≤◌, length};
 ghost use Rattle.rules.specs.Rule.{held};
 ghost use Rattle.rules.specs.Slices.{Lent};
 ghost use Rattle.ranges.specs.Prefixes.{care_word, value_word};
@@ -17,6 +17,7 @@ use rules::{Rule, put_rule};
 use words::Word;
 
 // Five numbers of their fields as one word: they stand side by side as in a header.
+#[tactic(auto, using(crate::proofs::EntryLaws::header_answered))]
 fn joined(numbers: Numbers) -> Word
     requires { in_fields (five_of numbers) ≡ true }
     ensures { result ≡ halves (header_of (five_of numbers)) }
@@ -87,63 +88,56 @@ fn entry(
     }
 }
 
-// Puts the entries with one source prefix from place `at` on, one for each of the first n destination prefixes.
+// Puts the entries with one source prefix from place `at` on, one for each destination prefix.
 fn put_inside(
     rule: FiveFieldRule,
     source_care: u16,
     source_value: u16,
     cares: &[u16],
     values: &[u16],
-    n: usize,
     at: usize,
     care: &mut [u64],
     value: &mut [u64],
     decision: &mut [u16],
 )
-    requires { Bounded (rule_of rule) × (n ≤ length cares.now) × (n ≤ length values.now)
-        × (at + n ≤ length decision.old) × Lent care.old value.old decision.old }
-    ensures { Put at (entries_inside (rule_of rule) source_care source_value (take n cares.now) (take n values.now))
+    requires { Bounded (rule_of rule) × (length cares.now ≡ length values.now)
+        × (at + length cares.now ≤ length decision.old) × Lent care.old value.old decision.old }
+    ensures { Put at (entries_inside (rule_of rule) source_care source_value cares.now values.now)
         care.old value.old decision.old
         care.new value.new decision.new }
 {
-    for j in 0..n {
+    for j in 0..cares.len() {
         let e = entry(rule, source_care, source_value, cares[j], values[j]);
         put_rule(care, value, decision, at + j, e);
     }
 }
 
-// Puts the entries of a rule from place `at` on: for each of the first m source prefixes those with each of the first n destination
-// prefixes.
+// Puts the entries of a rule from place `at` on: for each source prefix those with each destination prefix.
 pub(crate) fn put_pairs(
     rule: FiveFieldRule,
     source_cares: &[u16],
     source_values: &[u16],
-    m: usize,
     cares: &[u16],
     values: &[u16],
-    n: usize,
     at: usize,
     care: &mut [u64],
     value: &mut [u64],
     decision: &mut [u16],
 )
-    requires { Bounded (rule_of rule) × (m ≤ length source_cares.now) × (m ≤ length source_values.now)
-        × (n ≤ length cares.now) × (n ≤ length values.now)
-        × (at + m * n ≤ length decision.old) × Lent care.old value.old decision.old }
-    ensures { Put at (entries_by (rule_of rule) (take m source_cares.now) (take m source_values.now)
-        (take n cares.now) (take n values.now))
+    requires { Bounded (rule_of rule) × (length source_cares.now ≡ length source_values.now) × (length cares.now ≡ length values.now)
+        × (at + length source_cares.now * length cares.now ≤ length decision.old) × Lent care.old value.old decision.old }
+    ensures { Put at (entries_by (rule_of rule) source_cares.now source_values.now cares.now values.now)
         care.old value.old decision.old
         care.new value.new decision.new }
 {
-    for i in 0..m {
+    for i in 0..source_cares.len() {
         put_inside(
             rule,
             source_cares[i],
             source_values[i],
             cares,
             values,
-            n,
-            at + i * n,
+            at + i * cares.len(),
             care,
             value,
             decision,

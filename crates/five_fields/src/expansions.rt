@@ -7,15 +7,15 @@ ghost use Rattle.ranges.specs.Calls.{is_range};
 ghost use Rattle.five_fields.specs.FiveFieldRule.{rule_of};
 ghost use Rattle.five_numbers.specs.Fields.{port_bits};
 ghost use Rattle.five_fields.specs.FiveFieldRules.{fields_fit, ports_fit};
-ghost use Rattle.five_fields.specs.Slices.{slices, rules_in};
+ghost use Rattle.five_fields.specs.Slices.{lent, rules_in};
 ghost use Rattle.five_fields.specs.Expansion.{expansion, expanded};
 ghost use Rattle.five_fields.specs.Calls.{rules_check, ExpandDone};
 ghost use Rattle.five_fields.specs.Inner.{Put, PortWords};
 
-use crate::FiveFieldRule;
 use crate::checks::rule_at;
 use crate::counts::expansion_count;
 use crate::entries::put_pairs;
+use crate::{FiveFieldRule, FiveFieldRules};
 use ranges::range_prefixes;
 use rules::{Reason, Refusal, refused};
 
@@ -58,12 +58,10 @@ fn put_expansion(
     );
     put_pairs(
         rule,
-        &source_cares,
-        &source_values,
-        m,
-        &cares,
-        &values,
-        n,
+        &source_cares[..m],
+        &source_values[..m],
+        &cares[..n],
+        &values[..n],
         at,
         care,
         value,
@@ -73,47 +71,15 @@ fn put_expansion(
 }
 
 // Puts the entries of all rules from the first place on.
-fn put_all(
-    source: &[u32],
-    source_length: &[u32],
-    destination: &[u32],
-    destination_length: &[u32],
-    source_low: &[u32],
-    source_high: &[u32],
-    destination_low: &[u32],
-    destination_high: &[u32],
-    protocol: &[u32],
-    decision: &[u16],
-    out_care: &mut [u64],
-    out_value: &mut [u64],
-    out_decision: &mut [u16],
-)
-    requires { (rules_check (slices source.now source_length.now destination.now destination_length.now
-        source_low.now source_high.now destination_low.now destination_high.now protocol.now decision.now) ≡ passed)
-        × (length (expanded (rules_in (slices source.now source_length.now destination.now destination_length.now
-        source_low.now source_high.now destination_low.now destination_high.now protocol.now decision.now))) ≤ length out_decision.old)
-        × Lent out_care.old out_value.old out_decision.old }
-    ensures { Put 0 (expanded (rules_in (slices source.now source_length.now destination.now destination_length.now
-        source_low.now source_high.now destination_low.now destination_high.now protocol.now decision.now)))
-        out_care.old out_value.old out_decision.old
-        out_care.new out_value.new out_decision.new }
+fn put_all(rules: FiveFieldRules<'_>, care: &mut [u64], value: &mut [u64], decision: &mut [u16])
+    requires { (rules_check (lent rules) ≡ passed) × (length (expanded (rules_in (lent rules))) ≤ length decision.old)
+        × Lent care.old value.old decision.old }
+    ensures { Put 0 (expanded (rules_in (lent rules.entry))) care.old value.old decision.old
+        care.new value.new decision.new }
 {
     let mut at: usize = 0;
-    for i in 0..decision.len() {
-        let rule = rule_at(
-            source,
-            source_length,
-            destination,
-            destination_length,
-            source_low,
-            source_high,
-            destination_low,
-            destination_high,
-            protocol,
-            decision,
-            i,
-        );
-        at += put_expansion(rule, at, out_care, out_value, out_decision);
+    for i in 0..rules.decision.len() {
+        at += put_expansion(rule_at(rules, i), at, care, value, decision);
     }
 }
 
@@ -139,52 +105,16 @@ fn results_verdict(n: usize, cares: usize, values: usize, decisions: usize) -> R
 // 7 of the result slices; else how many entries it has.
 #[tactic(auto, unfolding(crate::specs::Calls::expand_reply, crate::specs::Calls::expand_check, crate::specs::Calls::count_reply, rules::specs::Checks::lengths_check))]
 pub fn expand(
-    source: &[u32],
-    source_length: &[u32],
-    destination: &[u32],
-    destination_length: &[u32],
-    source_low: &[u32],
-    source_high: &[u32],
-    destination_low: &[u32],
-    destination_high: &[u32],
-    protocol: &[u32],
-    decision: &[u16],
-    out_care: &mut [u64],
-    out_value: &mut [u64],
-    out_decision: &mut [u16],
+    rules: FiveFieldRules<'_>,
+    care: &mut [u64],
+    value: &mut [u64],
+    decision: &mut [u16],
 ) -> Result<usize, Refusal>
-    ensures { ExpandDone (slices source.now source_length.now destination.now destination_length.now
-        source_low.now source_high.now destination_low.now destination_high.now protocol.now decision.now)
-        out_care.old out_value.old out_decision.old
-        out_care.new out_value.new out_decision.new result }
+    ensures { ExpandDone (lent rules.entry) care.old value.old decision.old
+        care.new value.new decision.new result }
 {
-    let n = expansion_count(
-        source,
-        source_length,
-        destination,
-        destination_length,
-        source_low,
-        source_high,
-        destination_low,
-        destination_high,
-        protocol,
-        decision,
-    )?;
-    results_verdict(n, out_care.len(), out_value.len(), out_decision.len())?;
-    put_all(
-        source,
-        source_length,
-        destination,
-        destination_length,
-        source_low,
-        source_high,
-        destination_low,
-        destination_high,
-        protocol,
-        decision,
-        out_care,
-        out_value,
-        out_decision,
-    );
+    let n = expansion_count(rules)?;
+    results_verdict(n, care.len(), value.len(), decision.len())?;
+    put_all(rules, care, value, decision);
     Ok(n)
 }

@@ -24,3 +24,18 @@ pub struct FiveFieldRule {
     pub protocol: u32,
     pub decision: u16,
 }
+
+// A list of such rules: each slice has one field of every rule.
+#[derive(Clone, Copy)]
+pub struct FiveFieldRules<'a> {
+    pub source: &'a [u32],
+    pub source_length: &'a [u32],
+    pub destination: &'a [u32],
+    pub destination_length: &'a [u32],
+    pub source_low: &'a [u32],
+    pub source_high: &'a [u32],
+    pub destination_low: &'a [u32],
+    pub destination_high: &'a [u32],
+    pub protocol: &'a [u32],
+    pub decision: &'a [u16],
+}

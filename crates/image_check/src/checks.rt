@@ -10,6 +10,7 @@ use image_form::{Entry, byte_at, entry_in, layout, rule_in};
 use rules::{Reason, Refusal, check_rule, refused};
 
 // The size, the first four bytes, and room for the contents.
+#[tactic(auto, unfolding(crate::specs::Checks::head_check, image_form::specs::Formats::format_check, image_form::specs::Formats::range_check))]
 fn head(b: &[u8]) -> Result<(), Refusal>
     ensures { verdict_reply result ≡ head_check b.now }
 {
@@ -47,6 +48,7 @@ fn head(b: &[u8]) -> Result<(), Refusal>
 }
 
 // Contents entry number `list` of an image of `size` bytes: its id is `least` or more, its body starts at byte `next`.
+#[tactic(auto, unfolding(crate::specs::Checks::entry_check, crate::specs::Checks::count_check, rules::specs::Checks::size_check, image_form::specs::Formats::rule_size, image_form::specs::Formats::word_bytes))]
 fn entry_verdict(
     format: u8,
     size: usize,

@@ -7,8 +7,7 @@ ghost use Rattle.image_form.specs.Parts.{EntryRead, rule_from};
 use crate::Entry;
 use crate::formats::layout;
 use crate::numbers::{number, rule_here};
-use rules::Rule;
-use words::Word;
+use rules::{BLANK, Rule};
 
 // The byte at a place, counted from 0, as a number that sums and products have room in; 0 past the end.
 pub fn byte_at(b: &[u8], at: usize) -> usize
@@ -45,9 +44,5 @@ pub fn rule_in(format: u8, b: &[u8], at: usize) -> Rule
     if let Some(bytes) = part(b, at, layout(format).rule) {
         return rule_here(format, bytes);
     }
-    Rule {
-        care: Word { low: 0, high: 0 },
-        value: Word { low: 0, high: 0 },
-        decision: 0,
-    }
+    BLANK
 }

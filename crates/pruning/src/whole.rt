@@ -9,7 +9,7 @@ ghost use Rattle.pruning.specs.Inner.{Copied, Left};
 use crate::Tally;
 use crate::dropping::drop_all;
 use crate::showing::show_headers;
-use rules::{Reason, Refusal, RuleList, check_list, refused};
+use rules::{Reason, Refusal, RuleList, check_list, check_room, refused};
 
 // Puts the rules of a list into the first places of three slices.
 fn copy_rules(rules: RuleList, care: &mut [u64], value: &mut [u64], decision: &mut [u16])
@@ -24,8 +24,8 @@ fn copy_rules(rules: RuleList, care: &mut [u64], value: &mut [u64], decision: &m
 }
 
 // Refusal 2 where the four result slices are not equally long, then 7 where they have no place for each of `needed` rules.
-#[tactic(auto, using(std::proofs::lemmas::Bool::Decides::nat_tests), unfolding(crate::specs::Calls::results_check, crate::specs::Calls::headers_check, rules::specs::Checks::lengths_check, rules::specs::Checks::room_check))]
-fn results_verdict(needed: usize, results: RuleList, header: &[u64]) -> Result<(), Refusal>
+#[tactic(auto, using(std::proofs::lemmas::Bool::Decides::nat_tests), unfolding(crate::specs::Calls::results_check, crate::specs::Calls::headers_check, rules::specs::Checks::lengths_check))]
+fn check_results(needed: usize, results: RuleList, header: &[u64]) -> Result<(), Refusal>
     ensures { verdict_reply result ≡ results_in needed results.entry header.now }
 {
     let places = results.decision.len();
@@ -35,10 +35,7 @@ fn results_verdict(needed: usize, results: RuleList, header: &[u64]) -> Result<(
     {
         return refused(Reason::Slices, 0, 0);
     }
-    if places < needed {
-        return refused(Reason::Room, 0, 0);
-    }
-    Ok(())
+    check_room(needed, places)
 }
 
 // Prunes a list that has passed its checks into result slices with room for it.
@@ -92,6 +89,6 @@ pub fn prune(
         value: out_value,
         decision: out_decision,
     };
-    results_verdict(rules.decision.len(), results, header)?;
+    check_results(rules.decision.len(), results, header)?;
     Ok(prune_into(width, rules, out_care, out_value, out_decision, header))
 }

@@ -110,6 +110,7 @@ impl Swap {
     {
         let mut out = Word::from(0);
         let mut left = word;
+        // As many turns as there are set bits, which no range counts.
         while !words::is_zero(left) {
             let weight = 127 - bits::leading_zeros(left);
             let place = u32::from(self.places[(self.width - 1 - weight) as usize]);

@@ -1,5 +1,5 @@
 // Parts of slices. Every function is total: a part that would pass the end is empty.
-pub(crate) fn bytes(s: &[u8], n: usize) -> &[u8] {
+pub(crate) fn first<T>(s: &[T], n: usize) -> &[T] {
     if n <= s.len() { &s[..n] } else { &s[..0] }
 }
 
@@ -10,8 +10,4 @@ pub(crate) fn words(s: &[u64], n: usize) -> &[u64] {
     } else {
         &s[..0]
     }
-}
-
-pub(crate) fn shorts(s: &[u16], n: usize) -> &[u16] {
-    if n <= s.len() { &s[..n] } else { &s[..0] }
 }

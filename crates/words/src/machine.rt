@@ -13,13 +13,6 @@ impl From<u64> for Word {
     }
 }
 
-// The word that holds a machine word's number.
-pub fn wide(n: u64) -> Word
-    ensures { result ≡ halves n }
-{
-    Word { low: n, high: 0 }
-}
-
 // The number of a word, where a machine word holds it; else the greatest number that a machine word holds.
 pub fn capped(a: Word) -> u64
     ensures { result ≡ min (num a) (2 ^ 64 - 1) }

@@ -14,8 +14,8 @@ returns-then-position-rules c = needed-past _ _ _ _ _ c.in_ok-check_list.ensures
 pub lowest_change-requires : goal.lowest_change-requires
 lowest_change-requires c = (needed-sound _ _ _ _ 0 c.in_ok-check_list.ensures, omega (arith, c.if-position-rules.false))
 
-pub returns-in-At : goal.returns-in-At
-returns-in-At c = needed-found _ _ _ _ _ c.in_ok-check_list.ensures _ c.lowest_change.ensures _ _ c.in-At.is c.known_word.ensures.0 c.known_word.ensures.1
+pub returns-in_default : goal.returns-in_default
+returns-in_default c = needed-none _ _ _ _ _ c.in_ok-check_list.ensures c.in_default.ensures
 
-pub returns-in-Nothing : goal.returns-in-Nothing
-returns-in-Nothing c = needed-none _ _ _ _ _ c.in_ok-check_list.ensures _ c.lowest_change.ensures c.in-Nothing.is
+pub returns : goal.returns
+returns c = needed-found _ _ _ _ _ c.in_ok-check_list.ensures _ (omega arith) c.in-Some.ensures

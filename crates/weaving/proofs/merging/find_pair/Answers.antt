@@ -4,13 +4,10 @@ use mathlib.Core.Path.{◌≡◌, refl, sym, ap, ◌∙◌, subst}
 use Prim.Native.Nat.{ℕ}
 use native.Mathlib.Omega.{arith}
 use Rattle.rules.specs.Rules.{mergeable}
-use Rattle.weaving.specs.Inner.{NoRow, NoRows, Apart}
+use Rattle.weaving.specs.Inner.{NoRow, Apart}
 use Rattle.weaving.proofs.ChunkLaws.{test-read}
-use Rattle.weaving.proofs.PairLaws.{row-start, row-stop, row_more, rows_none, rows_more}
+use Rattle.weaving.proofs.PairLaws.{row-start, row-stop, row_more, rows_more}
 use Rattle.weaving.proofs.merging.find_pair.Goals as goal
-
-pub loop-i-init : goal.loop-i-init
-loop-i-init c = rows_none _ _ _
 
 pub loop-j-init : goal.loop-j-init
 loop-j-init c = let u = c.untried-j-items.ensures in
@@ -47,6 +44,3 @@ loop-i-preserved c = let o = c.loop-j.invariant in
     let e = o.end ∙ ap (λ (r : Range ℕ). r.end) c.into_iter-j-iterator.ensures.into_iter_gives in
     let f : c.loop-j.j-iterator.start ≡ c.untried-j-items.result.end = omega (arith, s.1.0, o.order, e) in
     rows_more _ _ _ _ c.loop-i.invariant (row-stop _ _ _ _ _ _ _ _ c.loop-i.auto.i c.requires.tried c.untried-j-items.ensures (subst (NoRow _ _) f o.row))
-
-pub returns : goal.returns
-returns c = let e : c.loop-i.i ≡ c.args.to = omega arith in subst (NoRows _ _ _) e c.loop-i.invariant

@@ -1,25 +1,7 @@
-use native.Mathlib.Omega.{arith}
 use borrow.Author.Rules.{rules}
-use Rattle.weaving.proofs.PairLaws.{tried-none}
 use Rattle.weaving.proofs.ChunkLaws.{rules-fit}
-use Rattle.weaving.proofs.GapLaws.{merging-none, merging-pair, merging-done, tried-merged}
+use Rattle.weaving.proofs.GapLaws.{merging-pair, merging-done, tried-merged}
 use Rattle.weaving.proofs.merging.merge_chunk.Goals as goal
-
-pub loop-i-init : goal.loop-i-init
-loop-i-init c = (merging-none _ _ _ (search rules), tried-none _ _ _)
-
-pub find_pair-requires : goal.find_pair-requires
-find_pair-requires c = record { lent = search rules; from_le_to = search rules; tried = c.loop-i.invariant.1 }
-
-pub merge_pair-requires : goal.merge_pair-requires
-merge_pair-requires c = let p = c.in-Some.ensures in
-    record { lent = search rules; i_lt_j = (p.later, p.inside, search rules) }
-
-pub overflow_sub-end : goal.overflow_sub-end
-overflow_sub-end c = omega (arith, c.in-Some.ensures.inside)
-
-pub loop-i-smaller : goal.loop-i-smaller
-loop-i-smaller c = omega (arith, c.in-Some.ensures.inside)
 
 pub loop-i-preserved : goal.loop-i-preserved
 loop-i-preserved c = let p = c.in-Some.ensures in
