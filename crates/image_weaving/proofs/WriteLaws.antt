@@ -1,9 +1,9 @@
 -- The squeezed lists of an accepted image, written: what the writer answers and leaves is the squeezed image.
 use mathlib.Core.Path.{◌≡◌, refl, sym, ap, ap₂, ◌∙◌}
 use mathlib.Core.List.{List, [], ◌∷◌}
-use Prim.Native.Nat.{ℕ, suc, ◌*◌, ◌≤◌, ◌<◌}
+use Prim.Native.Nat.{ℕ, ◌*◌, ◌≤◌}
 use native.Mathlib.Omega.{arith}
-use lib.ListN.{length, get_or, take}
+use lib.ListN.{length, take}
 use lib.Seq.{length-take-le, take_all}
 use borrow.Author.Tests.{le-leb}
 use Rattle.rules.specs.declared.Refusal.{Refusal}
@@ -16,7 +16,7 @@ use Rattle.rules.proofs.ReplyLaws.{then_next, then-stop, stop-up, same-refused, 
 use Rattle.rules.proofs.SliceLaws.{rules-length}
 use Rattle.image_form.specs.Images.{Named, format_in, width_in, count_in, lists_of, bytes_of}
 use Rattle.image_check.specs.Checks.{lists_check, image_check}
-use Rattle.image.proofs.BackLaws.{AreBytes, length-lists_of}
+use Rattle.image.proofs.BackLaws.{length-lists_of}
 use Rattle.image.proofs.SeekLaws.{image-facts}
 use Rattle.image_writer.specs.Writing.{sum_of, given, image_length, names_check, shape_check, write_check, write_reply, Written}
 use Rattle.image_writer.proofs.AgainLaws.{Carried, all_rules, length-bytes_of}

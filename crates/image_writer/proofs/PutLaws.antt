@@ -5,8 +5,8 @@ use Prim.Native.Nat.{ℕ, zero, suc, ◌+◌, ◌-◌, ◌*◌, ◌/◌, ◌%◌
 use native.Mathlib.Nat.{pow-suc, mul_assoc, div-div-eq-div-mul, div-one, zero-add, suc-add, pow-succ', add-zero}
 use native.Mathlib.Numerals.{add-one}
 use native.Mathlib.Omega.{arith}
-use lib.ListN.{length, get_or, set, take, drop, length-append, take-append-drop, drop_of_length-le, length-drop}
-use lib.Seq.{drop-drop, drop-cons, take_at, drop_at, set_split, length-take-le}
+use lib.ListN.{length, get_or, take, drop, length-append, take-append-drop, drop_of_length-le, length-drop}
+use lib.Seq.{drop-drop, drop-cons, take_at, drop_at, length-take-le}
 use Rattle.std.specs.Int.{Width, byte_len, to_le_bytes, bytes_low_first}
 use Rattle.words.specs.declared.Word.{Word}
 use Rattle.words.specs.Halves.{num}

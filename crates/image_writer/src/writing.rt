@@ -11,7 +11,6 @@ use image_form::layout;
 use rules::{Reason, Refusal, RuleList, check_list_as, check_room, refused};
 
 // Whether counts add up to a number of rules.
-#[tactic(auto, using(crate::proofs::GivenLaws::sum_counted))]
 fn adds_up(counts: &[u16], rules: usize) -> bool
     ensures { result ≡ eqb (sum_of counts.now) rules }
 {

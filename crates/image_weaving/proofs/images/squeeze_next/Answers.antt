@@ -1,7 +1,7 @@
 use mathlib.Core.Path.{ap}
 use native.Mathlib.Omega.{arith}
 use Rattle.image_form.specs.declared.Entry.{Entry}
-use Rattle.image_weaving.proofs.NextLaws.{next_place, next-room-for, next-answers, next_fits, next-squeezed}
+use Rattle.image_weaving.proofs.NextLaws.{next_place, next-room-for, next-answers, next-squeezed}
 use Rattle.image_weaving.proofs.images.squeeze_next.Goals as goal
 
 pub squeeze_list-requires : goal.squeeze_list-requires
