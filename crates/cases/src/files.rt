@@ -1,247 +1,227 @@
 // Files of cases: their lines, the answers beside the cases, and what is said of a file.
-use crate::source::{byte, byte_from, is_bad, next, part, phrase_of, word_start};
-use crate::{calls, show, slices};
+ghost use Rattle.std.specs.Prelude.{◌≤◌, length};
+
+use crate::calls;
+use crate::source::{Unread, without_spaces};
+use std::alloc::Global;
 use std::io::{Print, Read};
 use std::rt::{Env, Files};
 
-// What is said of cases and files, each phrase with its number.
-const LINE: usize = 0;
+// How much of a file is held at a time.
+const HELD: usize = 262144;
 
-const ANSWERS: usize = 1;
+// What is kept of that for the next part of the file, with the rest of a case: the first case of a part has at least 131,072 bytes.
+const KEPT: usize = 131071;
 
-const NO_SUCH_CALL: usize = 2;
-
-const CANNOT_READ: usize = 3;
-
-const ENDS_TOO_SOON: usize = 4;
-
-const EXPECTED: usize = 5;
-
-const LINE_END: usize = 6;
-
-const COUNTS: usize = 7;
-
-const CASES: usize = 8;
-
-const FAILED: usize = 9;
-
-const NOT_OPENED: usize = 10;
-
-fn say(rt: &impl Print, phrase: usize) {
-    let all: &[u8] =
-        b":| = |: no such call: |: cannot read on from: |: the case ends too soon|: another answer is expected: |\n|: | cases, | failed\n|: cannot be opened\n";
-    host::say(rt, phrase_of(all, phrase));
+// The first line of a text.
+fn first_line(s: &[u8]) -> &[u8] {
+    match s.iter().position(|b| *b == b'\n') {
+        Some(end) => &s[..end],
+        None => s,
+    }
 }
 
-// A number of a file between two phrases.
-fn say_number(rt: &impl Print, path: &[u8], before: usize, number: u64, after: usize) {
-    host::say(rt, path);
-    say(rt, before);
-    host::say_number(rt, number);
-    say(rt, after);
+// A text after its first line.
+fn after_line(s: &[u8]) -> &[u8]
+    ensures { length result.now ≤ length s.now }
+{
+    match s.iter().position(|b| *b == b'\n') {
+        Some(end) => &s[end + 1..],
+        None => &s[s.len()..],
+    }
 }
 
-// A text and a line end.
-fn say_line(rt: &impl Print, s: &[u8]) {
-    host::say(rt, s);
-    say(rt, LINE_END);
-}
-
-fn line_end(s: &[u8], at: usize) -> usize {
-    byte_from(s, at, s.len(), 10)
-}
-
-// Where a case ends whose first line ends here: lines that start with a space go on with it.
-fn case_end(s: &[u8], first_end: usize) -> usize {
-    let mut end = first_end;
+// A text after the case that it starts with, which goes on in lines that start with a space.
+fn after_case(s: &[u8]) -> &[u8]
+    ensures { length result.now ≤ length s.now }
+{
+    let mut rest = after_line(s);
     for _ in 0..s.len() {
-        if byte(s, next(end)) != 32 {
+        if !rest.starts_with(b" ") {
             break;
         }
-        end = line_end(s, next(end));
+        rest = after_line(rest);
     }
-    end
+    rest
 }
 
-// How many lines end in a part of the text.
-fn lines_in(s: &[u8], from: usize, end: usize) -> u64 {
-    let mut n = 0u64;
-    for at in from..end {
-        if byte(s, at) == 10 {
-            n = n.wrapping_add(1);
-        }
-    }
-    n
-}
-
-// Why a case could not be read on from a position.
-fn reason(s: &[u8], end: usize, at: usize) -> usize {
-    if end == calls::UNKNOWN {
-        NO_SUCH_CALL
-    } else if at < s.len() {
-        CANNOT_READ
-    } else {
-        ENDS_TOO_SOON
-    }
+// What is said of a case, after the number of its line.
+fn say_of(rt: &impl Print, path: &[u8], line: u64, words: &[u8], rest: &[u8]) {
+    host::say(rt, path);
+    host::say(rt, b":");
+    host::say_number(rt, line);
+    host::say(rt, words);
+    host::say(rt, rest);
+    host::say(rt, b"\n");
 }
 
 // Why a case could not be read: from which word on.
-fn say_unread(rt: &impl Print, path: &[u8], line: u64, s: &[u8], end: usize) {
-    let at = word_start(s, end % 1099511627776);
-    say_number(rt, path, LINE, line, reason(s, end, at));
-    say_line(rt, part(s, at, line_end(s, at)));
-}
-
-// What a case answers.
-fn say_answer(rt: &impl Print, path: &[u8], line: u64, s: &[u8], wanted: &[u8]) {
-    say_number(rt, path, LINE, line, ANSWERS);
-    calls::answered(rt, s, wanted, show::ALOUD);
-    say(rt, LINE_END);
-}
-
-// Says what a case answers, where that is not as the line beside it says, and answers how many failed.
-fn hold(rt: &impl Print, path: &[u8], line: u64, s: &[u8], wanted: &[u8], end: usize) -> u64 {
-    if end == wanted.len() {
-        0
-    } else {
-        say_answer(rt, path, line, s, wanted);
-        say_number(rt, path, LINE, line, EXPECTED);
-        say_line(rt, wanted);
-        1
+fn say_unread(rt: &impl Print, path: &[u8], line: u64, case: &[u8], why: Unread) {
+    let (words, left): (&[u8], usize) = match why {
+        Unread::Call => (b": no such call: ", case.len()),
+        Unread::At(left) | Unread::Item(left) => (b": cannot read on from: ", left),
+        Unread::Memory => (b": no memory for: ", case.len()),
+    };
+    let rest = without_spaces(&case[case.len().saturating_sub(left)..]);
+    match why {
+        Unread::At(_) | Unread::Item(_) if rest.is_empty() => {
+            say_of(rt, path, line, b": the case ends too soon", rest)
+        }
+        _ => say_of(rt, path, line, words, first_line(rest)),
     }
 }
 
-// Tries one case, and answers how many failed: 0 where it answers as the line beside it says, or there is no such line, else 1.
-fn try_case(rt: &impl Print, path: &[u8], line: u64, s: &[u8], wanted: &[u8], held: bool) -> u64 {
-    let end = calls::answered(rt, s, wanted, 0);
-    if is_bad(end) && end < show::OTHERWISE {
-        say_unread(rt, path, line, s, end);
-        1
-    } else if held {
-        hold(rt, path, line, s, wanted, end)
-    } else {
-        say_answer(rt, path, line, s, wanted);
-        0
+// Tries one case, and answers whether it failed. What it answers is said where that is not as the line beside it says, and where there is no such line.
+fn fails(
+    rt: &impl Print,
+    alloc: Global,
+    path: &[u8],
+    line: u64,
+    case: &[u8],
+    wanted: Option<&[u8]>,
+) -> bool {
+    let answer = match calls::answer(case, alloc) {
+        Ok(answer) => answer,
+        Err(why) => {
+            say_unread(rt, path, line, case, why);
+            return true;
+        }
+    };
+    let answered = answer.as_bytes();
+    match wanted {
+        None => {
+            say_of(rt, path, line, b" = ", answered);
+            false
+        }
+        Some(wanted) if wanted == answered => false,
+        Some(wanted) => {
+            say_of(rt, path, line, b" = ", answered);
+            say_of(rt, path, line, b": another answer is expected: ", wanted);
+            true
+        }
     }
 }
 
-// How far a file has been read: the position, the number of the line there, and how many cases there were and failed.
+// How far a file has been read: the number of the next line, and how many cases there were and failed.
 #[derive(Clone, Copy)]
 struct Tried {
-    at: usize,
     line: u64,
     cases: u64,
     failed: u64,
 }
 
-fn counted(t: Tried, end: usize, lines: u64, cases: u64, failed: u64) -> Tried {
-    Tried {
-        at: end,
-        line: t.line.wrapping_add(lines),
-        cases: t.cases.wrapping_add(cases),
-        failed: t.failed.wrapping_add(failed),
+// Tries the case that a text starts with. What stands after it and the answer beside it.
+fn try_case<'a>(
+    rt: &impl Print,
+    alloc: Global,
+    path: &[u8],
+    s: &'a [u8],
+    tried: &mut Tried,
+) -> &'a [u8]
+    ensures { length result.now ≤ length s.now }
+{
+    let mut rest = after_case(s);
+    let case = &s[..s.len() - rest.len()];
+    let wanted = if rest.starts_with(b"=") {
+        let line = first_line(rest);
+        rest = after_line(rest);
+        Some(line.get(2..).unwrap_or(b""))
+    } else {
+        None
+    };
+    let failed = fails(rt, alloc, path, tried.line, case, wanted);
+    let lines = s[..s.len() - rest.len()]
+        .iter()
+        .filter(|b| **b == b'\n')
+        .count();
+    tried.line = tried.line.wrapping_add(lines as u64);
+    tried.cases = tried.cases.wrapping_add(1);
+    tried.failed = tried.failed.wrapping_add(u64::from(failed));
+    rest
+}
+
+// Passes over a remark, which is an empty line or starts with #, or tries the case that a text starts with. What stands after it.
+fn try_next<'a>(
+    rt: &impl Print,
+    alloc: Global,
+    path: &[u8],
+    s: &'a [u8],
+    tried: &mut Tried,
+) -> &'a [u8]
+    ensures { length result.now ≤ length s.now }
+{
+    match s {
+        [b'\n' | b'#', ..] => {
+            tried.line = tried.line.wrapping_add(1);
+            after_line(s)
+        }
+        _ => try_case(rt, alloc, path, s, tried),
     }
 }
 
-// Tries the case that starts here and ends in this line or a later one.
-fn try_here(rt: &impl Print, path: &[u8], s: &[u8], t: Tried, first_end: usize) -> Tried {
-    let end = case_end(s, first_end);
-    let held = byte(s, next(end)) == 61;
-    let last = if held { line_end(s, next(end)) } else { end };
-    let wanted = part(s, next(next(next(end))), last);
-    let failed = try_case(rt, path, t.line, part(s, t.at, end), wanted, held);
-    counted(t, next(last), lines_in(s, t.at, next(last)), 1, failed)
-}
-
-// Passes over a remark, which is an empty line or starts with #, or tries the case that starts here.
-fn try_next(rt: &impl Print, path: &[u8], s: &[u8], t: Tried) -> Tried {
-    let end = line_end(s, t.at);
-    match byte(s, t.at) {
-        10 | 35 => counted(t, next(end), 1, 0, 0),
-        _ => try_here(rt, path, s, t, end),
-    }
-}
-
-// Tries the cases that stand in a part of a file: all of them where it is the last part, else those before its last 131,072 bytes.
-fn try_part(rt: &impl Print, path: &[u8], s: &[u8], from: Tried) -> Tried {
-    let end = if s.len() < 262144 { s.len() } else { 131073 };
-    let mut t = from;
-    t.at = 0;
+// Tries the cases that stand in a part of a file, all of them where it is the last part, and answers how much is left to try.
+fn try_part(rt: &impl Print, alloc: Global, path: &[u8], s: &[u8], tried: &mut Tried) -> usize
+    ensures { result ≤ length s.now }
+{
+    let kept = if s.len() < HELD { 0 } else { KEPT };
+    let mut rest = s;
     for _ in 0..s.len() {
-        if t.at >= end {
+        if rest.len() <= kept {
             break;
         }
-        t = try_next(rt, path, s, t);
+        rest = try_next(rt, alloc, path, rest, tried);
     }
-    t
-}
-
-// Moves what stands from `from` to `end` to the front, and answers how much that is.
-fn keep(s: &mut [u8], from: usize, end: usize) -> usize {
-    let mut i = 0;
-    for at in from..end {
-        slices::put_byte(s, i, byte(s, at));
-        i = next(i);
-    }
-    i
-}
-
-// Drops what stands before `from` of what is held, reads on behind the rest, and answers how much is held then.
-fn read_on(file: &mut impl Read, s: &mut [u8], from: usize, held: usize) -> usize {
-    let kept = keep(s, from, held);
-    if kept <= s.len() {
-        let got = host::read_full(file, &mut s[kept..]);
-        kept.wrapping_add(got)
-    } else {
-        kept
-    }
+    rest.len()
 }
 
 // Tries the cases of an open file, part by part.
-fn try_parts(rt: &impl Print, path: &[u8], file: &mut impl Read) -> Tried {
-    let mut space = [0u8; 262144];
-    let all: &mut [u8] = &mut space;
-    let mut t = Tried {
-        at: 0,
+fn try_parts(rt: &impl Print, alloc: Global, path: &[u8], file: &mut impl Read) -> Tried {
+    let mut space = [0u8; HELD];
+    let mut tried = Tried {
         line: 1,
         cases: 0,
         failed: 0,
     };
     let mut held = 0;
+    let mut left = 0;
     for _ in 0..1000000 {
-        held = read_on(file, all, t.at, held);
+        space.copy_within(held - left..held, 0);
+        held = left + host::read_full(file, &mut space[left..]);
         if held == 0 {
-            return t;
+            break;
         }
-        t = try_part(rt, path, slices::bytes(all, held), t);
+        left = try_part(rt, alloc, path, &space[..held], &mut tried);
     }
-    t
+    tried
 }
 
 fn say_count(rt: &impl Print, path: &[u8], cases: u64, failed: u64) {
-    say_number(rt, path, COUNTS, cases, CASES);
+    host::say(rt, path);
+    host::say(rt, b": ");
+    host::say_number(rt, cases);
+    host::say(rt, b" cases, ");
     host::say_number(rt, failed);
-    say(rt, FAILED);
+    host::say(rt, b" failed\n");
 }
 
 // Tries the cases of a file, and says how many there were. A file that is not there counts as a case that failed.
-fn try_path(rt: &(impl Files + Print), path: &[u8]) {
+fn try_path(rt: &(impl Files + Print), alloc: Global, path: &[u8]) {
     match host::open(rt, path) {
         Some(mut file) => {
-            let t = try_parts(rt, path, &mut file);
-            say_count(rt, path, t.cases, t.failed);
+            let tried = try_parts(rt, alloc, path, &mut file);
+            say_count(rt, path, tried.cases, tried.failed);
         }
         None => {
             host::say(rt, path);
-            say(rt, NOT_OPENED);
+            host::say(rt, b": cannot be opened\n");
             say_count(rt, path, 0, 1);
         }
     }
 }
 
 // Tries the file that argument i names.
-pub fn try_file(rt: &(impl Env + Files + Print), i: usize) {
+pub fn try_file(rt: &(impl Env + Files + Print), alloc: Global, i: usize) {
     let mut path = [0u8; host::NAME_ROOM];
     let n = host::word(rt, i, &mut path);
-    try_path(rt, &path[..n]);
+    try_path(rt, alloc, &path[..n]);
 }

@@ -1,178 +1,184 @@
 // The calls on images: the crates `image`, `image_writer` and `image_weaving`.
-use crate::source::{Taken, answer_at, named};
-use crate::{given, names, show, slices, weaving_calls};
+use crate::given::{read_bytes, read_list, read_shorts};
+use crate::show;
+use crate::show::Answer;
+use crate::source::{Source, Unread};
 use image::{Listed, NumberAnswer};
-use std::io::Print;
+use std::alloc::AllocError;
 
-fn show_number_answer(rt: &impl Print, w: &[u8], to: usize, o: NumberAnswer) -> usize {
-    match o {
-        NumberAnswer::Number(n) => show::number(rt, w, to, n as u64),
-        NumberAnswer::Refused(x) => show::refusal(rt, w, to, x),
-    }
-}
-
-fn show_listed(rt: &impl Print, w: &[u8], to: usize, l: Listed) -> usize {
-    match l {
-        Listed::List { id, rules } => {
-            let at = show::named(rt, w, to, show::ID, id as u64);
-            show::named(rt, w, at, show::RULES, rules as u64)
+impl Answer for NumberAnswer {
+    fn put(self, out: &mut String) -> Result<(), AllocError> {
+        match self {
+            NumberAnswer::Number(n) => write!(out, "{n}"),
+            NumberAnswer::Refused(x) => x.put(out),
         }
-        Listed::Refused(x) => show::refusal(rt, w, to, x),
     }
 }
 
-// The calls that have an image.
-pub fn on_image(rt: &impl Print, call: usize, s: &[u8], from: usize, w: &[u8], to: usize) -> usize {
-    let b = given::read_bytes(s, from, names::IMAGE);
-    let bytes = b.bytes;
-    with_image(rt, call, slices::bytes(&bytes, b.count), s, b.at, w, to)
+impl Answer for Listed {
+    fn put(self, out: &mut String) -> Result<(), AllocError> {
+        match self {
+            Listed::List { id, rules } => write!(out, "id {id} rules {rules}"),
+            Listed::Refused(x) => x.put(out),
+        }
+    }
 }
 
-// Most have a number after it: which entry, counted from 1, or the `id` of a list.
-fn with_image(
-    rt: &impl Print,
-    call: usize,
-    image: &[u8],
-    s: &[u8],
-    from: usize,
-    w: &[u8],
-    to: usize,
-) -> usize {
-    let n = match call {
-        names::ENTRY => named(s, from, names::NUMBER, 18446744073709551615),
-        names::BODY..=names::READ => named(s, from, names::ID, 65535),
-        _ => Taken { value: 0, at: from },
-    };
-    let id = (n.value % 65536) as u16;
-    let at = answer_at(s, n.at, to);
-    match call {
-        names::CHECK => show::verdict(rt, w, at, image::check(image)),
-        names::WIDTH => show_number_answer(rt, w, at, image::width(image)),
-        names::FORMAT => show_number_answer(rt, w, at, image::format(image)),
-        names::COUNT => show_number_answer(rt, w, at, image::count(image)),
-        names::ENTRY => show_listed(rt, w, at, image::entry(image, n.value as usize)),
-        names::BODY => show::bytes(rt, w, at, image::body(image, id)),
-        names::BODY_REFUSAL => show::verdict(rt, w, at, image::body_refusal(image, id)),
-        names::TALLY => weaving_calls::show_woven(rt, w, at, image_weaving::tally(image, id)),
-        names::READ => read(rt, image, id, s, n.at, w, to),
-        _ => squeeze(rt, call, image, s, n.at, w, to),
-    }
+// The one argument of a call: `image`.
+fn only_image(case: &mut Source) -> Result<Vec<u8>, Unread> {
+    let image = read_bytes(case, b"image")?;
+    case.end()?;
+    Ok(image)
+}
+
+fn check(case: &mut Source, out: &mut String) -> Result<(), Unread> {
+    image::check(&only_image(case)?).put(out)?;
+    Ok(())
+}
+
+fn width(case: &mut Source, out: &mut String) -> Result<(), Unread> {
+    image::width(&only_image(case)?).put(out)?;
+    Ok(())
+}
+
+fn format(case: &mut Source, out: &mut String) -> Result<(), Unread> {
+    image::format(&only_image(case)?).put(out)?;
+    Ok(())
+}
+
+fn count(case: &mut Source, out: &mut String) -> Result<(), Unread> {
+    image::count(&only_image(case)?).put(out)?;
+    Ok(())
+}
+
+// `number`: which entry, counted from 1.
+fn entry(case: &mut Source, out: &mut String) -> Result<(), Unread> {
+    let image = read_bytes(case, b"image")?;
+    let number = case.named(b"number")?;
+    case.end()?;
+    image::entry(&image, number).put(out)?;
+    Ok(())
+}
+
+// `image`, and the `id` of a list.
+fn image_and_id(case: &mut Source) -> Result<(Vec<u8>, u16), Unread> {
+    let image = read_bytes(case, b"image")?;
+    let id = case.named(b"id")?;
+    Ok((image, id))
+}
+
+fn body(case: &mut Source, out: &mut String) -> Result<(), Unread> {
+    let (image, id) = image_and_id(case)?;
+    case.end()?;
+    show::numbers(out, image::body(&image, id))?;
+    Ok(())
+}
+
+fn body_refusal(case: &mut Source, out: &mut String) -> Result<(), Unread> {
+    let (image, id) = image_and_id(case)?;
+    case.end()?;
+    image::body_refusal(&image, id).put(out)?;
+    Ok(())
+}
+
+fn tally(case: &mut Source, out: &mut String) -> Result<(), Unread> {
+    let (image, id) = image_and_id(case)?;
+    case.end()?;
+    image_weaving::tally(&image, id).put(out)?;
+    Ok(())
 }
 
 // The width as an image says it, for patterns; 0 where it says none.
 fn width_of(image: &[u8]) -> u32 {
-    let w = image::width(image);
-    if let NumberAnswer::Number(n) = w {
-        if n <= 128 {
-            return n as u32;
-        }
+    match image::width(image) {
+        NumberAnswer::Number(n) if n <= 128 => n as u32,
+        _ => 0,
     }
-    0
 }
 
 // `into`: the list that takes the rules.
-fn read(
-    rt: &impl Print,
-    image: &[u8],
-    id: u16,
-    s: &[u8],
-    from: usize,
-    w: &[u8],
-    to: usize,
-) -> usize {
-    let mut l = given::read_list(s, from, names::INTO);
-    let mut care = l.care;
-    let mut value = l.value;
-    let mut decision = l.decision;
-    let o = image::read(
-        image,
+fn read(case: &mut Source, out: &mut String) -> Result<(), Unread> {
+    let (image, id) = image_and_id(case)?;
+    let mut into = read_list(case, b"into")?;
+    case.end()?;
+    let answer = image::read(
+        &image,
         id,
-        slices::numbers_mut(&mut care, l.cares),
-        slices::numbers_mut(&mut value, l.values),
-        slices::shorts_mut(&mut decision, l.decisions),
+        &mut into.care,
+        &mut into.value,
+        &mut into.decision,
     );
-    l.care = care;
-    l.value = value;
-    l.decision = decision;
-    let answer = show_number_answer(rt, w, answer_at(s, l.at, to), o);
-    show::list(
-        rt,
-        w,
-        show::phrase(rt, w, answer, show::INTO),
-        width_of(image),
-        l,
-    )
+    answer.put(out)?;
+    out.push_str(" into ")?;
+    show::list(out, width_of(&image), &into)?;
+    Ok(())
 }
 
-// The call `write`: it has a format, a width and a list, and after these `ids`, `counts` and `into`, the bytes that take the image.
-pub fn write(
-    rt: &impl Print,
-    s: &[u8],
-    at: usize,
-    format: u8,
-    width: u32,
-    care: &[u64],
-    value: &[u64],
-    decision: &[u16],
-    w: &[u8],
-    to: usize,
-) -> usize {
-    let i = given::read_shorts(s, at, names::IDS);
-    let c = given::read_shorts(s, i.at, names::COUNTS);
-    let b = given::read_bytes(s, c.at, names::INTO);
-    let ids = i.numbers;
-    let counts = c.numbers;
-    let mut image = b.bytes;
-    let o = image_writer::write(
+// `format`, `width`, `list`, `ids`, `counts` and `into`, the bytes that take the image.
+fn write(case: &mut Source, out: &mut String) -> Result<(), Unread> {
+    let format = case.named(b"format")?;
+    let width = case.named(b"width")?;
+    let l = read_list(case, b"list")?;
+    let ids = read_shorts(case, b"ids")?;
+    let counts = read_shorts(case, b"counts")?;
+    let mut into = read_bytes(case, b"into")?;
+    case.end()?;
+    let answer = image_writer::write(
         format,
         width,
-        slices::shorts(&ids, i.count),
-        slices::shorts(&counts, c.count),
-        care,
-        value,
-        decision,
-        slices::bytes_mut(&mut image, b.count),
+        &ids,
+        &counts,
+        &l.care,
+        &l.value,
+        &l.decision,
+        &mut into,
     );
-    show_image(
-        rt,
-        w,
-        answer_at(s, b.at, to),
-        o,
-        slices::bytes(&image, b.count),
-    )
-}
-
-fn squeezed(call: usize, image: &[u8], out: &mut [u8]) -> NumberAnswer {
-    match call {
-        names::WEAVE_IMAGE => image_weaving::weave_image(image, out),
-        _ => image_weaving::prune_image(image, out),
-    }
+    put_image(out, answer, &into)
 }
 
 // `into`: the bytes that take the image with every list woven, or pruned.
-fn squeeze(
-    rt: &impl Print,
-    call: usize,
-    image: &[u8],
-    s: &[u8],
-    from: usize,
-    w: &[u8],
-    to: usize,
-) -> usize {
-    let b = given::read_bytes(s, from, names::INTO);
-    let mut out = b.bytes;
-    let o = squeezed(call, image, slices::bytes_mut(&mut out, b.count));
-    show_image(
-        rt,
-        w,
-        answer_at(s, b.at, to),
-        o,
-        slices::bytes(&out, b.count),
-    )
+fn image_and_into(case: &mut Source) -> Result<(Vec<u8>, Vec<u8>), Unread> {
+    let image = read_bytes(case, b"image")?;
+    let into = read_bytes(case, b"into")?;
+    case.end()?;
+    Ok((image, into))
+}
+
+fn weave_image(case: &mut Source, out: &mut String) -> Result<(), Unread> {
+    let (image, mut into) = image_and_into(case)?;
+    let answer = image_weaving::weave_image(&image, &mut into);
+    put_image(out, answer, &into)
+}
+
+fn prune_image(case: &mut Source, out: &mut String) -> Result<(), Unread> {
+    let (image, mut into) = image_and_into(case)?;
+    let answer = image_weaving::prune_image(&image, &mut into);
+    put_image(out, answer, &into)
 }
 
 // The answer of a call that makes an image, and the bytes that were lent for it.
-fn show_image(rt: &impl Print, w: &[u8], to: usize, o: NumberAnswer, bytes: &[u8]) -> usize {
-    let into = show::phrase(rt, w, show_number_answer(rt, w, to, o), show::INTO);
-    show::bytes(rt, w, into, bytes)
+fn put_image(out: &mut String, answer: NumberAnswer, bytes: &[u8]) -> Result<(), Unread> {
+    answer.put(out)?;
+    out.push_str(" into ")?;
+    show::numbers(out, bytes)?;
+    Ok(())
+}
+
+// Makes the call with this name, where it is one of these.
+pub fn make(name: &[u8], case: &mut Source, out: &mut String) -> Option<Result<(), Unread>> {
+    Some(match name {
+        b"check" => check(case, out),
+        b"format" => format(case, out),
+        b"width" => width(case, out),
+        b"count" => count(case, out),
+        b"entry" => entry(case, out),
+        b"body" => body(case, out),
+        b"body_refusal" => body_refusal(case, out),
+        b"read" => read(case, out),
+        b"weave_image" => weave_image(case, out),
+        b"prune_image" => prune_image(case, out),
+        b"tally" => tally(case, out),
+        b"write" => write(case, out),
+        _ => return None,
+    })
 }

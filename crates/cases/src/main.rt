@@ -9,18 +9,16 @@ mod five_field_rules;
 mod five_fields_calls;
 mod given;
 mod image_calls;
-mod names;
 mod ranges_calls;
 mod rules_calls;
 mod runs;
 mod show;
-mod slices;
 mod source;
 mod swaps_calls;
 mod weaving_calls;
 
 fn main(rt: HostRuntime) {
     for i in 1..host::word_count(&rt) {
-        files::try_file(&rt, i);
+        files::try_file(&rt, rt.alloc(), i);
     }
 }

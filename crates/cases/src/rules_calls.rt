@@ -1,186 +1,162 @@
-// The calls on lists of rules and on rules: the crates `rules` and `pairs`; the lookup of a swapped header beside the other two, and what
-// a rule is needed for, of the crate `compare`.
-use crate::source::{Taken, after, answer_at, named, named_if};
-use crate::{given, names, show, slices, swaps_calls};
-use rules::{Looked, Wire};
-use std::io::Print;
+// The calls on lists of rules and on rules: the crates `rules` and `pairs`, and the lookup of a swapped header.
+use crate::given::{List, MOST, numbers, one_rule, read_list, two_rules};
+use crate::show::Answer;
+use crate::source::{Source, Unread};
+use crate::{show, swaps_calls};
+use rules::{Looked, Rule, Wire};
 use words::Word;
 
-// The calls that have a list, and most of them a number after it: `as`, or `place` or `position`, which are counted from 0.
-pub fn on_list(
-    rt: &impl Print,
-    call: usize,
-    s: &[u8],
-    from: usize,
-    width: u32,
-    care: &[u64],
-    value: &[u64],
-    decision: &[u16],
-    w: &[u8],
-    to: usize,
-) -> usize {
-    let n = match call {
-        names::CHECK_LIST_AS => named(s, from, names::AS, 18446744073709551615),
-        names::RULE_AT => named(s, from, names::PLACE, 18446744073709551615),
-        names::NEEDED_AT => named(s, from, names::POSITION, 18446744073709551615),
-        _ => Taken { value: 0, at: from },
-    };
-    let at = answer_at(s, n.at, to);
-    let number = n.value as usize;
-    match call {
-        names::CHECK_LIST => {
-            show::verdict(rt, w, at, rules::check_list(width, care, value, decision))
+// `width` and `list`.
+pub fn width_and_list(case: &mut Source) -> Result<(u32, List), Unread> {
+    let width = case.named(b"width")?;
+    let list = read_list(case, b"list")?;
+    Ok((width, list))
+}
+
+fn check_list(case: &mut Source, out: &mut String) -> Result<(), Unread> {
+    let (width, l) = width_and_list(case)?;
+    case.end()?;
+    rules::check_list(width, &l.care, &l.value, &l.decision).put(out)?;
+    Ok(())
+}
+
+fn check_list_as(case: &mut Source, out: &mut String) -> Result<(), Unread> {
+    let (width, l) = width_and_list(case)?;
+    let number = case.named(b"as")?;
+    case.end()?;
+    rules::check_list_as(number, width, &l.care, &l.value, &l.decision).put(out)?;
+    Ok(())
+}
+
+fn check_rule(case: &mut Source, out: &mut String) -> Result<(), Unread> {
+    let width = case.named(b"width")?;
+    let list = case.named(b"list")?;
+    let number = case.named(b"number")?;
+    let rule = one_rule(case, b"rule")?;
+    case.end()?;
+    rules::check_rule(width, list, number, rule).put(out)?;
+    Ok(())
+}
+
+// `headers`: each of them is looked up in the list.
+fn look_up<F: Fn(u32, &List, Word) -> Looked>(
+    case: &mut Source,
+    out: &mut String,
+    looked: F,
+) -> Result<(), Unread>
+    requires { F.IsAlwaysCallable looked }
+{
+    let (width, list) = width_and_list(case)?;
+    case.name(b"headers")?;
+    let headers = numbers(case, 128, MOST)?;
+    case.end()?;
+    for (i, header) in headers.iter().enumerate() {
+        if i != 0 {
+            out.push_str(", ")?;
         }
-        names::CHECK_LIST_AS => show::verdict(
-            rt,
-            w,
-            at,
-            rules::check_list_as(number, width, care, value, decision),
-        ),
-        names::NEEDED_AT => show::needed(
-            rt,
-            w,
-            at,
-            compare::needed_at(width, care, value, decision, number),
-        ),
-        _ => show::rule(rt, w, at, 0, rules::rule_at(care, value, decision, number)),
+        looked(width, &list, *header).put(out)?;
     }
+    Ok(())
 }
 
-// `headers`: each of them is looked up.
-pub fn lookups(
-    rt: &impl Print,
-    call: usize,
-    s: &[u8],
-    at: usize,
-    width: u32,
-    care: &[u64],
-    value: &[u64],
-    decision: &[u16],
-    w: &[u8],
-    to: usize,
-) -> usize {
-    let mut headers = [0u64; 8224];
-    let f = given::words_to(s, after(s, at, names::HEADERS), 128, &mut headers);
-    look_up(
-        rt,
-        call,
-        width,
-        care,
-        value,
-        decision,
-        &headers,
-        f.count,
-        w,
-        answer_at(s, f.at, to),
-    )
+fn lookup(case: &mut Source, out: &mut String) -> Result<(), Unread> {
+    look_up(case, out, |width, l, header| {
+        rules::lookup(width, &l.care, &l.value, &l.decision, Wire(header))
+    })
 }
 
-fn looked(
-    call: usize,
-    width: u32,
-    care: &[u64],
-    value: &[u64],
-    decision: &[u16],
-    header: Word,
-) -> Looked {
-    match call {
-        names::LOOKUP_SWAPPED => swaps_calls::looked(width, care, value, decision, header),
-        names::LOOKUP_NUMBER => rules::lookup_number(width, care, value, decision, header),
-        _ => rules::lookup(width, care, value, decision, Wire(header)),
-    }
+fn lookup_number(case: &mut Source, out: &mut String) -> Result<(), Unread> {
+    look_up(case, out, |width, l, header| {
+        rules::lookup_number(width, &l.care, &l.value, &l.decision, header)
+    })
 }
 
-fn look_up(
-    rt: &impl Print,
-    call: usize,
-    width: u32,
-    care: &[u64],
-    value: &[u64],
-    decision: &[u16],
-    headers: &[u64],
-    count: usize,
-    w: &[u8],
-    to: usize,
-) -> usize {
-    let mut at = to;
-    for i in 0..count {
-        at = show::between(rt, w, at, i, show::COMMA);
-        let l = looked(
-            call,
-            width,
-            care,
-            value,
-            decision,
-            words::word_at(headers, i),
-        );
-        at = show::looked(rt, w, at, l);
-    }
-    at
+fn lookup_swapped(case: &mut Source, out: &mut String) -> Result<(), Unread> {
+    look_up(case, out, |width, l, header| {
+        swaps_calls::looked(width, &l.care, &l.value, &l.decision, header)
+    })
 }
 
-// The calls that have rules and no list: all that are handed in stand in brackets after the name of the argument.
-pub fn on_rules(rt: &impl Print, call: usize, s: &[u8], from: usize, w: &[u8], to: usize) -> usize {
-    let width = named_if(call < names::RULE_COVERS, s, from, names::WIDTH, 4294967295);
-    let places = (width.value % 4294967296) as u32;
-    match call {
-        names::CHECK_RULE => check_rule(rt, places, s, width.at, w, to),
-        _ => pair(rt, call, places, s, width.at, w, to),
-    }
+// `width`, and `rules`: two of them.
+fn width_and_two(case: &mut Source) -> Result<(u32, Rule, Rule), Unread> {
+    let width = case.named(b"width")?;
+    let (first, second) = two_rules(case, b"rules")?;
+    case.end()?;
+    Ok((width, first, second))
 }
 
-fn check_rule(rt: &impl Print, width: u32, s: &[u8], from: usize, w: &[u8], to: usize) -> usize {
-    let list = named(s, from, names::LIST, 18446744073709551615);
-    let number = named(s, list.at, names::NUMBER, 18446744073709551615);
-    let r = given::one_rule(s, number.at, names::RULE);
-    let v = rules::check_rule(width, list.value as usize, number.value as usize, r.rule);
-    show::verdict(rt, w, answer_at(s, r.at, to), v)
+fn covers(case: &mut Source, out: &mut String) -> Result<(), Unread> {
+    let (width, first, second) = width_and_two(case)?;
+    pairs::covers(width, first, second).put(out)?;
+    Ok(())
 }
 
-// `rules`: two of them.
-fn pair(
-    rt: &impl Print,
-    call: usize,
-    width: u32,
-    s: &[u8],
-    from: usize,
-    w: &[u8],
-    to: usize,
-) -> usize {
-    let r = given::two_rules(s, from, names::RULES);
-    let at = answer_at(s, r.at, to);
-    match call {
-        names::COVERS => show::holds(rt, w, at, pairs::covers(width, r.first, r.second)),
-        names::CROSSES => show::holds(rt, w, at, pairs::crosses(width, r.first, r.second)),
-        names::DISTANCE => show::measured(rt, w, at, pairs::distance(width, r.first, r.second)),
-        names::RULE_COVERS => show::yes_or_no(rt, w, at, pairs::rule_covers(r.first, r.second)),
-        _ => show::yes_or_no(rt, w, at, pairs::rule_crosses(r.first, r.second)),
-    }
+fn crosses(case: &mut Source, out: &mut String) -> Result<(), Unread> {
+    let (width, first, second) = width_and_two(case)?;
+    pairs::crosses(width, first, second).put(out)?;
+    Ok(())
 }
 
-// `list`, `place` and `rule`: the list is shown as it is then.
-pub fn put_rule(rt: &impl Print, s: &[u8], from: usize, w: &[u8], to: usize) -> usize {
-    let mut l = given::read_list(s, from, names::LIST);
-    let place = named(s, l.at, names::PLACE, 18446744073709551615);
-    let r = given::one_rule(s, place.at, names::RULE);
-    let mut care = l.care;
-    let mut value = l.value;
-    let mut decision = l.decision;
-    rules::put_rule(
-        slices::numbers_mut(&mut care, l.cares),
-        slices::numbers_mut(&mut value, l.values),
-        slices::shorts_mut(&mut decision, l.decisions),
-        place.value as usize,
-        r.rule,
-    );
-    l.care = care;
-    l.value = value;
-    l.decision = decision;
-    show::list(
-        rt,
-        w,
-        show::phrase(rt, w, answer_at(s, r.at, to), show::LIST),
+fn distance(case: &mut Source, out: &mut String) -> Result<(), Unread> {
+    let (width, first, second) = width_and_two(case)?;
+    pairs::distance(width, first, second).put(out)?;
+    Ok(())
+}
+
+fn rule_covers(case: &mut Source, out: &mut String) -> Result<(), Unread> {
+    let (first, second) = two_rules(case, b"rules")?;
+    case.end()?;
+    pairs::rule_covers(first, second).put(out)?;
+    Ok(())
+}
+
+fn rule_crosses(case: &mut Source, out: &mut String) -> Result<(), Unread> {
+    let (first, second) = two_rules(case, b"rules")?;
+    case.end()?;
+    pairs::rule_crosses(first, second).put(out)?;
+    Ok(())
+}
+
+fn rule_at(case: &mut Source, out: &mut String) -> Result<(), Unread> {
+    let l = read_list(case, b"list")?;
+    let place = case.named(b"place")?;
+    case.end()?;
+    show::rule(
+        out,
         0,
-        l,
-    )
+        rules::rule_at(&l.care, &l.value, &l.decision, place),
+    )?;
+    Ok(())
+}
+
+// The list is shown as it is then.
+fn put_rule(case: &mut Source, out: &mut String) -> Result<(), Unread> {
+    let mut l = read_list(case, b"list")?;
+    let place = case.named(b"place")?;
+    let rule = one_rule(case, b"rule")?;
+    case.end()?;
+    rules::put_rule(&mut l.care, &mut l.value, &mut l.decision, place, rule);
+    out.push_str("list ")?;
+    show::list(out, 0, &l)?;
+    Ok(())
+}
+
+// Makes the call with this name, where it is one of these.
+pub fn make(name: &[u8], case: &mut Source, out: &mut String) -> Option<Result<(), Unread>> {
+    Some(match name {
+        b"check_list" => check_list(case, out),
+        b"check_list_as" => check_list_as(case, out),
+        b"check_rule" => check_rule(case, out),
+        b"lookup" => lookup(case, out),
+        b"lookup_number" => lookup_number(case, out),
+        b"lookup_swapped" => lookup_swapped(case, out),
+        b"covers" => covers(case, out),
+        b"crosses" => crosses(case, out),
+        b"distance" => distance(case, out),
+        b"rule_covers" => rule_covers(case, out),
+        b"rule_crosses" => rule_crosses(case, out),
+        b"rule_at" => rule_at(case, out),
+        b"put_rule" => put_rule(case, out),
+        _ => return None,
+    })
 }

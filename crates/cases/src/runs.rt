@@ -1,75 +1,58 @@
 // The four result slices of a comparison, as a case hands them in.
-use crate::names::{FIRST, INTO, LAST, NEW, OLD};
-use crate::source::{after, is_next};
-use crate::{given, slices};
+use crate::given::{MOST, numbers, put_word, read_numbers, read_shorts, short};
+use crate::source::{Source, Unread};
 
-// The four slices, how many numbers each of them has, and the position after them.
-#[derive(Clone, Copy)]
+#[derive(Drop)]
 pub struct Runs {
-    pub first: [u64; 8224],
-    pub last: [u64; 8224],
-    pub old: [u16; 4112],
-    pub new: [u16; 4112],
-    pub firsts: usize,
-    pub lasts: usize,
-    pub olds: usize,
-    pub news: usize,
-    pub at: usize,
+    pub first: Vec<u64>,
+    pub last: Vec<u64>,
+    pub old: Vec<u16>,
+    pub new: Vec<u16>,
 }
 
 // The four slices one by one: `first`, `last`, `old` and `new`.
-fn by_slices(s: &[u8], from: usize) -> Runs {
-    let f = given::read_numbers(s, from, FIRST);
-    let l = given::read_numbers(s, f.at, LAST);
-    let o = given::read_shorts(s, l.at, OLD);
-    let n = given::read_shorts(s, o.at, NEW);
-    let first = f.numbers;
-    let last = l.numbers;
-    let old = o.numbers;
-    let new = n.numbers;
-    Runs {
+fn by_slices(case: &mut Source) -> Result<Runs, Unread> {
+    let first = read_numbers(case, b"first")?;
+    let last = read_numbers(case, b"last")?;
+    let old = read_shorts(case, b"old")?;
+    let new = read_shorts(case, b"new")?;
+    Ok(Runs {
         first,
         last,
         old,
         new,
-        firsts: f.count,
-        lasts: l.count,
-        olds: o.count,
-        news: n.count,
-        at: n.at,
-    }
+    })
 }
 
 // Runs of four numbers each in brackets.
-fn by_numbers(s: &[u8], from: usize) -> Runs {
-    let mut numbers = [0u64; 32896];
-    let f = given::words_to(s, from, 128, &mut numbers);
-    let all: &[u64] = &numbers;
-    let count = f.count / 4;
-    let twice = count.wrapping_add(count);
-    let first = slices::words_of(all, 0, 4, count);
-    let last = slices::words_of(all, 1, 4, count);
-    let old = slices::shorts_of(all, 2, 4, count);
-    let new = slices::shorts_of(all, 3, 4, count);
-    Runs {
-        first,
-        last,
-        old,
-        new,
-        firsts: twice,
-        lasts: twice,
-        olds: count,
-        news: count,
-        at: given::whole_rows(all, f.count, 4, 2, from, f.at),
+fn by_numbers(case: &mut Source) -> Result<Runs, Unread> {
+    let start = case.here();
+    let all = numbers(case, 128, 4 * MOST)?;
+    let (rows, rest) = all.as_chunks::<4>();
+    if !rest.is_empty() {
+        return Err(start);
     }
+    let mut runs = Runs {
+        first: Vec::new(case.alloc),
+        last: Vec::new(case.alloc),
+        old: Vec::new(case.alloc),
+        new: Vec::new(case.alloc),
+    };
+    for [first, last, old, new] in rows {
+        put_word(&mut runs.first, *first)?;
+        put_word(&mut runs.last, *last)?;
+        runs.old.push(short(*old).ok_or(start)?)?;
+        runs.new.push(short(*new).ok_or(start)?)?;
+    }
+    Ok(runs)
 }
 
 // The argument `into`: runs, or the four slices.
-pub fn read_runs(s: &[u8], from: usize) -> Runs {
-    let at = after(s, from, INTO);
-    if is_next(s, at, FIRST) {
-        by_slices(s, at)
+pub fn read_runs(case: &mut Source) -> Result<Runs, Unread> {
+    case.name(b"into")?;
+    if case.is_next(b"first") {
+        by_slices(case)
     } else {
-        by_numbers(s, at)
+        by_numbers(case)
     }
 }

@@ -1,520 +1,273 @@
-// Answers, in the words of docs/CASES.md. An answer is held to the text `w` that stands beside its case, from a position on, and each
-// function answers the position after what it has said, or `OTHERWISE` where the text is another. At the position `ALOUD` the answer is
-// written to standard output instead.
+// Answers, in the words of docs/CASES.md.
 use crate::given::List;
 use crate::runs::Runs;
-use crate::slices;
-use crate::source::{byte, is_bad, next, part, phrase_of};
 use compare::{Compared, Ending, Needed};
 use pairs::{Holds, Measured};
 use rules::{Hit, Looked, Refusal, Rule, Verdict};
-use std::io::Print;
+use std::alloc::AllocError;
+use std::fmt;
+use std::fmt::Display;
 use swaps::Swap;
 use words::Word;
 
-// The phrases of answers, each with its number.
-pub const FINE: usize = 0;
+// The number that a word holds.
+pub fn whole(x: Word) -> u128 {
+    u128::from(x.high) << 64 | u128::from(x.low)
+}
 
-pub const NONE: usize = 1;
-
-pub const YES: usize = 2;
-
-pub const NO: usize = 3;
-
-pub const REFUSED: usize = 4;
-
-pub const AT: usize = 5;
-
-pub const SPACE: usize = 6;
-
-pub const COMMA: usize = 7;
-
-pub const OPEN: usize = 8;
-
-pub const CLOSE: usize = 9;
-
-pub const SLASH: usize = 10;
-
-pub const FINISHED: usize = 11;
-
-pub const MORE_FROM: usize = 12;
-
-pub const KEPT: usize = 13;
-
-pub const DROPPED: usize = 14;
-
-pub const MERGED: usize = 15;
-
-pub const INTO: usize = 16;
-
-pub const LIST: usize = 17;
-
-pub const SWAP: usize = 18;
-
-pub const CARE: usize = 19;
-
-pub const VALUE: usize = 20;
-
-pub const DECISION: usize = 21;
-
-pub const FIRST: usize = 22;
-
-pub const LAST: usize = 23;
-
-pub const OLD: usize = 24;
-
-pub const NEW: usize = 25;
-
-pub const ID: usize = 26;
-
-pub const RULES: usize = 27;
-
-pub const TIMES: usize = 28;
-
-pub const HALF: usize = 29;
-
-pub const RULE: usize = 30;
-
-pub const NEEDED: usize = 31;
-
-pub const NOWHERE: usize = 32;
-
-pub const HEADERS: usize = 33;
-
-// The position at which answers are written.
-pub const ALOUD: usize = 4398046511104;
-
-// The position that stands for another answer than the one in the text.
-pub const OTHERWISE: usize = 3298534883328;
-
-// Nothing is said at a bad position, as `OTHERWISE` is one too: it is what is answered.
-fn say(rt: &impl Print, w: &[u8], at: usize, said: &[u8]) -> usize {
-    let end = at.wrapping_add(said.len());
-    if at >= ALOUD {
-        host::say(rt, said);
-    }
-    if is_bad(at) {
-        at
-    } else if check::same(part(w, at, end), said) {
-        end
-    } else {
-        OTHERWISE
+fn word_of(n: u128) -> Word {
+    Word {
+        low: (n % (1 << 64)) as u64,
+        high: (n >> 64) as u64,
     }
 }
 
-pub fn phrase(rt: &impl Print, w: &[u8], at: usize, k: usize) -> usize {
-    let all: &[u8] =
-        b"fine|none|yes|no|refused | at | |, |[|]|/| finished| more from |kept | dropped | merged | into |list | swap |care | value | decision |first | last | old | new |id | rules | times |half | rule |at |nowhere| headers ";
-    say(rt, w, at, phrase_of(all, k))
+// What a call answers.
+pub trait Answer {
+    fn put(self, out: &mut String) -> Result<(), AllocError>;
 }
 
-pub fn number(rt: &impl Print, w: &[u8], at: usize, n: u64) -> usize {
-    wide_number(rt, w, at, words::wide(n))
-}
-
-// A number of up to 39 digits.
-pub fn wide_number(rt: &impl Print, w: &[u8], at: usize, n: Word) -> usize {
-    let mut digits = [0u8; 39];
-    let k = text::write_number(n, &mut digits);
-    say(rt, w, at, slices::bytes(&digits, k))
-}
-
-// A phrase and a number.
-pub fn named(rt: &impl Print, w: &[u8], at: usize, k: usize, n: u64) -> usize {
-    number(rt, w, phrase(rt, w, at, k), n)
-}
-
-pub fn refusal(rt: &impl Print, w: &[u8], at: usize, x: Refusal) -> usize {
-    let list = named(
-        rt,
-        w,
-        named(rt, w, at, REFUSED, x.number as u64),
-        AT,
-        x.list as u64,
-    );
-    named(rt, w, list, SPACE, x.rule as u64)
-}
-
-pub fn verdict(rt: &impl Print, w: &[u8], at: usize, v: Verdict) -> usize {
-    match v {
-        Verdict::Fine => phrase(rt, w, at, FINE),
-        Verdict::Refused(x) => refusal(rt, w, at, x),
+impl Answer for Refusal {
+    fn put(self, out: &mut String) -> Result<(), AllocError> {
+        write!(
+            out,
+            "refused {} at {} {}",
+            self.number, self.list, self.rule
+        )
     }
 }
 
-// An answer of a list: 65,535 stands for no match.
-fn answer(rt: &impl Print, w: &[u8], at: usize, n: u16) -> usize {
-    match n {
-        65535 => phrase(rt, w, at, NONE),
-        _ => number(rt, w, at, n as u64),
+impl Answer for Verdict {
+    fn put(self, out: &mut String) -> Result<(), AllocError> {
+        match self {
+            Verdict::Fine => out.push_str("fine"),
+            Verdict::Refused(x) => x.put(out),
+        }
     }
 }
 
-// The decision of a rule that is hit, and the rule's number.
-fn hit(rt: &impl Print, w: &[u8], at: usize, x: Hit) -> usize {
-    named(
-        rt,
-        w,
-        number(rt, w, at, x.decision as u64),
-        RULE,
-        x.number as u64,
-    )
-}
-
-pub fn looked(rt: &impl Print, w: &[u8], at: usize, l: Looked) -> usize {
-    match l {
-        Looked::Hit(x) => hit(rt, w, at, x),
-        Looked::Miss => phrase(rt, w, at, NONE),
-        Looked::Refused(x) => refusal(rt, w, at, x),
+// The decision of the rule that is hit, and the rule's number.
+impl Answer for Looked {
+    fn put(self, out: &mut String) -> Result<(), AllocError> {
+        match self {
+            Looked::Hit(x) => write!(out, "{} rule {}", x.decision, x.number),
+            Looked::Miss => out.push_str("none"),
+            Looked::Refused(x) => x.put(out),
+        }
     }
 }
 
-pub fn yes_or_no(rt: &impl Print, w: &[u8], at: usize, yes: bool) -> usize {
-    if yes {
-        phrase(rt, w, at, YES)
-    } else {
-        phrase(rt, w, at, NO)
+impl Answer for bool {
+    fn put(self, out: &mut String) -> Result<(), AllocError> {
+        out.push_str(if self { "yes" } else { "no" })
     }
 }
 
-pub fn holds(rt: &impl Print, w: &[u8], at: usize, h: Holds) -> usize {
-    match h {
-        Holds::Yes => phrase(rt, w, at, YES),
-        Holds::No => phrase(rt, w, at, NO),
-        Holds::Refused(x) => refusal(rt, w, at, x),
+impl Answer for Holds {
+    fn put(self, out: &mut String) -> Result<(), AllocError> {
+        match self {
+            Holds::Yes => true.put(out),
+            Holds::No => false.put(out),
+            Holds::Refused(x) => x.put(out),
+        }
     }
 }
 
-pub fn measured(rt: &impl Print, w: &[u8], at: usize, m: Measured) -> usize {
-    match m {
-        Measured::Places(n) => number(rt, w, at, n as u64),
-        Measured::Refused(x) => refusal(rt, w, at, x),
+impl Answer for Measured {
+    fn put(self, out: &mut String) -> Result<(), AllocError> {
+        match self {
+            Measured::Places(n) => write!(out, "{n}"),
+            Measured::Refused(x) => x.put(out),
+        }
     }
 }
 
-pub fn compared(rt: &impl Print, w: &[u8], at: usize, c: Compared) -> usize {
-    let count = number(rt, w, at, c.count as u64);
-    let ending = c.ending;
-    match ending {
-        Ending::Finished => phrase(rt, w, count, FINISHED),
-        Ending::More(h) => wide_number(rt, w, phrase(rt, w, count, MORE_FROM), h.0),
-        Ending::Refused(x) => refusal(rt, w, phrase(rt, w, count, SPACE), x),
+impl Answer for Compared {
+    fn put(self, out: &mut String) -> Result<(), AllocError> {
+        write!(out, "{}", self.count)?;
+        match self.ending {
+            Ending::Finished => out.push_str(" finished"),
+            Ending::More(h) => write!(out, " more from {}", whole(h.0)),
+            Ending::Refused(x) => {
+                out.push_str(" ")?;
+                x.put(out)
+            }
+        }
     }
 }
 
 // The header that a rule is needed at.
-pub fn needed(rt: &impl Print, w: &[u8], at: usize, n: Needed) -> usize {
-    match n {
-        Needed::At(h) => wide_number(rt, w, phrase(rt, w, at, NEEDED), h.0),
-        Needed::Nowhere => phrase(rt, w, at, NOWHERE),
-        Needed::Refused(x) => refusal(rt, w, at, x),
-    }
-}
-
-// What stands between the parts of an answer, and not before the first.
-pub fn between(rt: &impl Print, w: &[u8], at: usize, i: usize, k: usize) -> usize {
-    match i {
-        0 => at,
-        _ => phrase(rt, w, at, k),
-    }
-}
-
-// What is shown in brackets: words, of which only the first slice is there, shorter numbers, of which only the last one is, or rules,
-// which have all three.
-const WORDS: usize = 0;
-
-const SHORTS: usize = 1;
-
-const RULES_OF_A_LIST: usize = 2;
-
-fn item_at(care: &[u64], value: &[u64], decision: &[u16], i: usize) -> Rule {
-    Rule {
-        care: words::word_at(care, i),
-        value: words::word_at(value, i),
-        decision: slices::short_at(decision, i),
-    }
-}
-
-fn item(rt: &impl Print, w: &[u8], at: usize, kind: usize, width: u32, r: Rule) -> usize {
-    match kind {
-        WORDS => wide_number(rt, w, at, r.care),
-        SHORTS => number(rt, w, at, r.decision as u64),
-        _ => rule(rt, w, at, width, r),
-    }
-}
-
-fn same_items(a: Rule, b: Rule) -> bool {
-    words::same(a.care, b.care) && words::same(a.value, b.value) && a.decision == b.decision
-}
-
-// How many items from place i on are shown as one: 16 or more that are the same, or one.
-fn alike(care: &[u64], value: &[u64], decision: &[u16], i: usize, count: usize) -> usize {
-    let r = item_at(care, value, decision, i);
-    let mut end = i;
-    while end < count && same_items(r, item_at(care, value, decision, end)) {
-        end += 1;
-    }
-    let n = end.wrapping_sub(i);
-    if n < 16 { 1 } else { n }
-}
-
-// An item that stands n times.
-fn times(
-    rt: &impl Print,
-    w: &[u8],
-    at: usize,
-    n: usize,
-    kind: usize,
-    width: u32,
-    r: Rule,
-) -> usize {
-    match n {
-        1 => item(rt, w, at, kind, width, r),
-        _ => item(
-            rt,
-            w,
-            phrase(rt, w, number(rt, w, at, n as u64), TIMES),
-            kind,
-            width,
-            r,
-        ),
-    }
-}
-
-// The items in brackets.
-fn items(
-    rt: &impl Print,
-    w: &[u8],
-    from: usize,
-    kind: usize,
-    width: u32,
-    count: usize,
-    care: &[u64],
-    value: &[u64],
-    decision: &[u16],
-) -> usize {
-    let separator = if kind == RULES_OF_A_LIST {
-        COMMA
-    } else {
-        SPACE
-    };
-    let mut at = phrase(rt, w, from, OPEN);
-    let mut shown = 0;
-    for i in 0..count {
-        if i == shown {
-            let n = alike(care, value, decision, i, count);
-            at = between(rt, w, at, i, separator);
-            at = times(rt, w, at, n, kind, width, item_at(care, value, decision, i));
-            shown = i.wrapping_add(n);
+impl Answer for Needed {
+    fn put(self, out: &mut String) -> Result<(), AllocError> {
+        match self {
+            Needed::At(h) => write!(out, "at {}", whole(h.0)),
+            Needed::Nowhere => out.push_str("nowhere"),
+            Needed::Refused(x) => x.put(out),
         }
     }
-    phrase(rt, w, left_over(rt, w, at, care), CLOSE)
 }
 
-// A number that is left over after the words of a slice.
-fn left_over(rt: &impl Print, w: &[u8], at: usize, s: &[u64]) -> usize {
-    match s.len() % 2 {
-        0 => at,
-        _ => named(
-            rt,
-            w,
-            between(rt, w, at, s.len() / 2, SPACE),
-            HALF,
-            s[s.len() - 1],
-        ),
+// A rule as it is shown: one that fits the width as its pattern, another by its two words, and its decision.
+#[derive(Clone, Copy, PartialEq)]
+struct Shown {
+    width: u32,
+    care: u128,
+    value: u128,
+    decision: u16,
+}
+
+impl Shown {
+    fn new(width: u32, r: Rule) -> Shown {
+        Shown {
+            width,
+            care: whole(r.care),
+            value: whole(r.value),
+            decision: r.decision,
+        }
     }
 }
 
-// The words of a slice, after a phrase.
-pub fn slice(rt: &impl Print, w: &[u8], at: usize, k: usize, s: &[u64]) -> usize {
-    let none = [0u16; 0];
-    items(
-        rt,
-        w,
-        phrase(rt, w, at, k),
-        WORDS,
-        0,
-        s.len() / 2,
-        s,
-        s,
-        &none,
-    )
+impl fmt::Display for Shown {
+    fn fmt<W: fmt::Write>(&self, f: &mut fmt::Formatter<W>) -> fmt::Result {
+        let undecided = Rule {
+            care: word_of(self.care),
+            value: word_of(self.value),
+            decision: 0,
+        };
+        match rules::check_rule(self.width, 1, 1, undecided) {
+            Verdict::Fine => {
+                let mut places = [0u8; 128];
+                let n = text::write_pattern(self.width, undecided, &mut places);
+                for place in places.iter().take(n) {
+                    f.write_char(char::from(*place))?;
+                }
+            }
+            Verdict::Refused(_) => write!(f, "{}/{}", self.care, self.value)?,
+        }
+        write!(f, " {}", self.decision)
+    }
 }
 
-pub fn shorts(rt: &impl Print, w: &[u8], at: usize, s: &[u16]) -> usize {
-    let none = [0u64; 0];
-    items(rt, w, at, SHORTS, 0, s.len(), &none, &none, s)
+// The items of a slice, in brackets: 16 or more that are the same are shown as one.
+fn items<T: PartialEq + Display>(
+    out: &mut String,
+    all: &[T],
+    separator: &str,
+) -> Result<(), AllocError> {
+    let mut goes_on = false;
+    for alike in all.chunk_by(|x, y| x == y) {
+        let count = alike.len();
+        let shown = if count < 16 { count } else { 1 };
+        for x in alike.iter().take(shown) {
+            if goes_on {
+                out.push_str(separator)?;
+            }
+            if shown < count {
+                write!(out, "{count} times ")?;
+            }
+            write!(out, "{x}")?;
+            goes_on = true;
+        }
+    }
+    Ok(())
 }
 
-pub fn bytes(rt: &impl Print, w: &[u8], at: usize, s: &[u8]) -> usize {
-    let wide = slices::of_bytes(s);
-    shorts(rt, w, at, slices::first_of(&wide, s.len()))
+// The words of a slice, and a number that is left over after them.
+pub fn slice(out: &mut String, s: &[u64]) -> Result<(), AllocError> {
+    let (pairs, rest) = s.as_chunks::<2>();
+    let numbers = pairs.iter().map(|[low, high]| whole(Word {
+        low: *low,
+        high: *high,
+    }));
+    let numbers: Vec<u128> = numbers.collect(*out.allocator())?;
+    out.push_str("[")?;
+    items(out, numbers.as_slice(), " ")?;
+    for half in rest {
+        if !pairs.is_empty() {
+            out.push_str(" ")?;
+        }
+        write!(out, "half {half}")?;
+    }
+    out.push_str("]")
 }
 
-// A rule that fits the width as its pattern, another by its two words, and its decision.
-pub fn rule(rt: &impl Print, w: &[u8], at: usize, width: u32, r: Rule) -> usize {
-    let care = r.care;
-    let value = r.value;
-    let undecided = Rule {
-        care,
-        value,
-        decision: 0,
-    };
-    let said = match rules::check_rule(width, 1, 1, undecided) {
-        Verdict::Fine => pattern(rt, w, at, width, r),
-        Verdict::Refused(_) => wide_number(
-            rt,
-            w,
-            phrase(rt, w, wide_number(rt, w, at, care), SLASH),
-            value,
-        ),
-    };
-    named(rt, w, said, SPACE, r.decision as u64)
+// The numbers of a slice.
+pub fn numbers<T: PartialEq + Display>(out: &mut String, s: &[T]) -> Result<(), AllocError> {
+    out.push_str("[")?;
+    items(out, s, " ")?;
+    out.push_str("]")
 }
 
-fn pattern(rt: &impl Print, w: &[u8], at: usize, width: u32, r: Rule) -> usize {
-    let mut places = [0u8; 128];
-    let n = text::write_pattern(width, r, &mut places);
-    say(rt, w, at, slices::bytes(&places, n))
+pub fn rule(out: &mut String, width: u32, r: Rule) -> Result<(), AllocError> {
+    write!(out, "{}", Shown::new(width, r))
 }
 
 // A list: its rules, or slice by slice where they differ in length.
-pub fn list(rt: &impl Print, w: &[u8], at: usize, width: u32, l: List) -> usize {
-    let care = l.care;
-    let value = l.value;
-    let decision = l.decision;
-    lent_list(
-        rt,
-        w,
-        at,
-        width,
-        slices::numbers(&care, l.cares),
-        slices::numbers(&value, l.values),
-        slices::shorts(&decision, l.decisions),
-    )
-}
-
-fn lent_list(
-    rt: &impl Print,
-    w: &[u8],
-    at: usize,
-    width: u32,
-    care: &[u64],
-    value: &[u64],
-    decision: &[u16],
-) -> usize {
+pub fn list(out: &mut String, width: u32, l: &List) -> Result<(), AllocError> {
+    let (care, value, decision) = (l.care.as_slice(), l.value.as_slice(), l.decision.as_slice());
     if care.len() == value.len() && care.len() == decision.len() * 2 {
-        items(
-            rt,
-            w,
-            at,
-            RULES_OF_A_LIST,
+        let rules = (0..decision.len()).map(|i| Shown::new(
             width,
-            decision.len(),
-            care,
-            value,
-            decision,
-        )
+            rules::rule_at(care, value, decision, i),
+        ));
+        let rules: Vec<Shown> = rules.collect(*out.allocator())?;
+        out.push_str("[")?;
+        items(out, rules.as_slice(), ", ")?;
+        out.push_str("]")
     } else {
-        three(rt, w, at, CARE, care, value, decision)
+        out.push_str("care ")?;
+        slice(out, care)?;
+        out.push_str(" value ")?;
+        slice(out, value)?;
+        out.push_str(" decision ")?;
+        numbers(out, decision)
     }
-}
-
-// Three slices one by one, the first after phrase k.
-fn three(rt: &impl Print, w: &[u8], at: usize, k: usize, a: &[u64], b: &[u64], c: &[u16]) -> usize {
-    let second = slice(rt, w, slice(rt, w, at, k, a), next(k), b);
-    shorts(rt, w, phrase(rt, w, second, next(next(k))), c)
 }
 
 // The width of a swap and its entries; entries of 0 after the last other one are left out.
-pub fn swap(rt: &impl Print, w: &[u8], at: usize, s: Swap) -> usize {
-    let width = named(rt, w, at, SWAP, s.width as u64);
-    let places = s.places;
-    bytes(
-        rt,
-        w,
-        phrase(rt, w, width, SPACE),
-        slices::bytes(&places, last_entry(&places)),
-    )
+pub fn swap(out: &mut String, s: Swap) -> Result<(), AllocError> {
+    write!(out, " swap {} ", s.width)?;
+    let places = match s.places.iter().rposition(|place| *place != 0) {
+        Some(last) => &s.places[..=last],
+        None => &s.places[..0],
+    };
+    numbers(out, places)
 }
 
-fn last_entry(places: &[u8]) -> usize {
-    let mut left = places.len();
-    while left > 0 && byte(places, left - 1) == 0 {
-        left -= 1;
+// An answer of a list: 65,535 stands for no match.
+fn outcome(out: &mut String, n: u16) -> Result<(), AllocError> {
+    match n {
+        65535 => out.push_str("none"),
+        _ => write!(out, "{n}"),
     }
-    left
-}
-
-fn run(rt: &impl Print, w: &[u8], at: usize, first: Word, last: Word, old: u16, new: u16) -> usize {
-    let to = phrase(rt, w, wide_number(rt, w, at, first), SPACE);
-    let headers = phrase(rt, w, wide_number(rt, w, to, last), SPACE);
-    answer(
-        rt,
-        w,
-        phrase(rt, w, answer(rt, w, headers, old), SPACE),
-        new,
-    )
-}
-
-fn runs_of(
-    rt: &impl Print,
-    w: &[u8],
-    from: usize,
-    first: &[u64],
-    last: &[u64],
-    old: &[u16],
-    new: &[u16],
-) -> usize {
-    let mut at = phrase(rt, w, from, OPEN);
-    for i in 0..old.len() {
-        at = run(
-            rt,
-            w,
-            between(rt, w, at, i, COMMA),
-            words::word_at(first, i),
-            words::word_at(last, i),
-            slices::short_at(old, i),
-            slices::short_at(new, i),
-        );
-    }
-    phrase(rt, w, at, CLOSE)
 }
 
 // What `into` holds after a comparison: runs, or the four slices one by one where they differ in length.
-pub fn runs(rt: &impl Print, w: &[u8], at: usize, r: Runs) -> usize {
-    let first = r.first;
-    let last = r.last;
-    let old = r.old;
-    let new = r.new;
-    lent_runs(
-        rt,
-        w,
-        phrase(rt, w, at, INTO),
-        slices::numbers(&first, r.firsts),
-        slices::numbers(&last, r.lasts),
-        slices::shorts(&old, r.olds),
-        slices::shorts(&new, r.news),
-    )
-}
-
-fn lent_runs(
-    rt: &impl Print,
-    w: &[u8],
-    at: usize,
-    first: &[u64],
-    last: &[u64],
-    old: &[u16],
-    new: &[u16],
-) -> usize {
+pub fn runs(out: &mut String, r: &Runs) -> Result<(), AllocError> {
+    let (first, last) = (r.first.as_slice(), r.last.as_slice());
+    let (old, new) = (r.old.as_slice(), r.new.as_slice());
     if first.len() == last.len() && first.len() == old.len() * 2 && old.len() == new.len() {
-        runs_of(rt, w, at, first, last, old, new)
+        out.push_str("[")?;
+        for (i, (old, new)) in old.iter().zip(new).enumerate() {
+            if i != 0 {
+                out.push_str(", ")?;
+            }
+            let first = whole(words::word_at(first, i));
+            let last = whole(words::word_at(last, i));
+            write!(out, "{first} {last} ")?;
+            outcome(out, *old)?;
+            out.push_str(" ")?;
+            outcome(out, *new)?;
+        }
+        out.push_str("]")
     } else {
-        shorts(
-            rt,
-            w,
-            phrase(rt, w, three(rt, w, at, FIRST, first, last, old), NEW),
-            new,
-        )
+        out.push_str("first ")?;
+        slice(out, first)?;
+        out.push_str(" last ")?;
+        slice(out, last)?;
+        out.push_str(" old ")?;
+        numbers(out, old)?;
+        out.push_str(" new ")?;
+        numbers(out, new)
     }
 }

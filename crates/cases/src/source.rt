@@ -1,187 +1,179 @@
-// The text of a case, read from left to right. A position in it is a number. One that could not be read at a position goes on as
-// `bad` of that position, at which nothing can be read either: so only the last position of a case has to be looked at.
-use crate::names::{NONE, number_of};
+// The text of a case, read from left to right.
+use std::alloc::{AllocError, AllocFailed, Global};
 use text::Number;
 use words::Word;
 
-pub fn byte(s: &[u8], at: usize) -> u8 {
-    if at < s.len() { s[at] } else { 0 }
+// Why a case cannot be read. The number says how many bytes of the case are left from where it cannot be read on.
+#[derive(Clone, Copy, Debug, PartialEq, Eq)]
+pub enum Unread {
+    // The case starts with no name of a call.
+    Call,
+    // What has to stand here does not.
+    At(usize),
+    // What stands in a slice from here on is more than one number, and does not go together.
+    Item(usize),
+    // There is no memory for what the case lends or for what it answers.
+    Memory,
 }
 
-// The position before which a text could be read, and no further.
-pub fn bad(at: usize) -> usize {
-    if at < 1099511627776 {
-        at + 1099511627776
-    } else {
-        at
+impl From<AllocError> for Unread {
+    fn from(_e: AllocError) -> Unread {
+        Unread::Memory
     }
 }
 
-pub fn is_bad(at: usize) -> bool {
-    at >= 1099511627776
-}
-
-pub fn next(at: usize) -> usize {
-    if at < 1099511627776 { at + 1 } else { at }
+impl<T: Drop> From<AllocFailed<T>> for Unread {
+    fn from(_e: AllocFailed<T>) -> Unread {
+        Unread::Memory
+    }
 }
 
 // A space, a line end, or a comma, which is there for people.
 fn is_space(b: u8) -> bool {
-    b == 32 || b == 10 || b == 44
+    matches!(b, b' ' | b'\n' | b',')
 }
 
 // What ends a word: a space or a bracket.
 fn is_end(b: u8) -> bool {
-    is_space(b) || b == 91 || b == 93
+    is_space(b) || matches!(b, b'[' | b']')
 }
 
-// Where the next word or bracket starts.
-pub fn word_start(s: &[u8], from: usize) -> usize {
-    let mut at = from;
-    while at < s.len() && is_space(s[at]) {
-        at += 1;
+// A text from its first word or bracket on.
+pub fn without_spaces(s: &[u8]) -> &[u8] {
+    match s.iter().position(|b| !is_space(*b)) {
+        Some(start) => &s[start..],
+        None => &s[s.len()..],
     }
-    at
-}
-
-// Where the word that starts here has ended.
-pub fn word_end(s: &[u8], from: usize) -> usize {
-    let mut at = from;
-    while at < s.len() && !is_end(s[at]) {
-        at += 1;
-    }
-    at
-}
-
-// Where this byte stands in a part of the text, or the part's end.
-pub fn byte_from(s: &[u8], from: usize, end: usize, b: u8) -> usize {
-    let mut at = from;
-    while at < end && byte(s, at) != b {
-        at += 1;
-    }
-    at
-}
-
-// A part of the text; empty where there is no such part.
-pub fn part(s: &[u8], from: usize, end: usize) -> &[u8] {
-    if from <= end {
-        if end <= s.len() {
-            return &s[from..end];
-        }
-    }
-    &s[..0]
-}
-
-// The phrase with this number in a text, where a | stands between two.
-pub fn phrase_of(s: &[u8], k: usize) -> &[u8] {
-    let mut from = 0;
-    for _ in 0..k {
-        from = next(byte_from(s, from, s.len(), 124));
-    }
-    part(s, from, byte_from(s, from, s.len(), 124))
-}
-
-// Whether the next word is the one with this number.
-pub fn is_next(s: &[u8], from: usize, name: usize) -> bool {
-    let at = word_start(s, from);
-    number_of(part(s, at, word_end(s, at))) == name
-}
-
-// The position after the next word, which has to be the one with this number.
-pub fn after(s: &[u8], from: usize, name: usize) -> usize {
-    if is_next(s, from, name) {
-        word_end(s, word_start(s, from))
-    } else {
-        bad(from)
-    }
-}
-
-// The position after a bracket.
-pub fn bracket(s: &[u8], from: usize, b: u8) -> usize {
-    let at = word_start(s, from);
-    if byte(s, at) == b { next(at) } else { bad(at) }
-}
-
-// Where the answer to a case goes that is read up to a position: to `to`, where nothing is left to read. Else a bad position, at which
-// nothing is said (`show::say`), so that it is what the case answers.
-pub fn answer_at(s: &[u8], from: usize, to: usize) -> usize {
-    let at = word_start(s, from);
-    if at == s.len() { to } else { bad(at) }
-}
-
-// A number, and the position after it.
-#[derive(Clone, Copy)]
-pub struct Taken {
-    pub value: u64,
-    pub at: usize,
 }
 
 // What a word stands for; `none` is 65,535, which stands for no match.
-fn meant(word: &[u8]) -> Number {
-    if number_of(word) == NONE {
-        Number::Value(words::wide(65535))
-    } else {
-        text::read_number(word)
+fn meant(word: &[u8]) -> Option<Word> {
+    if word == b"none".as_slice() {
+        return Some(words::wide(65535));
+    }
+    match text::read_number(word) {
+        Number::Value(x) => Some(x),
+        Number::Nothing => None,
     }
 }
 
-// A number that a word holds, and the position after it.
+// The number that a word stands for, which has to be below 2^bits.
+pub fn word_below(word: &[u8], bits: u32) -> Option<Word> {
+    meant(word).filter(|x| words::below(*x, bits))
+}
+
+// The number that a word stands for, which has to be one of the type's.
+pub fn number_of<T: TryFrom<u64>>(word: &[u8]) -> Option<T>
+where
+    T::Error: Drop,
+{
+    T::try_from(word_below(word, 64)?.low).ok()
+}
+
+// What is left of a case.
 #[derive(Clone, Copy)]
-pub struct Given {
-    pub word: Word,
-    pub at: usize,
+pub struct Source<'a> {
+    rest: &'a [u8],
+    pub alloc: Global,
 }
 
-// The number in a part of the text, which has to be below 2^bits.
-pub fn word_in(s: &[u8], from: usize, end: usize, bits: u32) -> Given {
-    let n = meant(part(s, from, end));
-    if let Number::Value(x) = n {
-        if words::below(x, bits) {
-            return Given { word: x, at: end };
+impl<'a> Source<'a> {
+    pub fn new(case: &'a [u8], alloc: Global) -> Self {
+        Source { rest: case, alloc }
+    }
+
+    // How many bytes are left.
+    pub fn left(&self) -> usize {
+        self.rest.len()
+    }
+
+    // What is said where the case cannot be read on from here.
+    pub fn here(&self) -> Unread {
+        Unread::At(self.left())
+    }
+
+    // Goes on to the next word or bracket.
+    pub fn skip_spaces(&mut self) {
+        self.rest = without_spaces(self.rest);
+    }
+
+    // The next word, which is empty before a bracket and at the end.
+    pub fn word(&mut self) -> &'a [u8] {
+        self.skip_spaces();
+        let rest = self.rest;
+        let end = rest.iter().position(|b| is_end(*b)).unwrap_or(rest.len());
+        self.rest = &rest[end..];
+        &rest[..end]
+    }
+
+    pub fn is_next(&self, word: &[u8]) -> bool {
+        let mut ahead = *self;
+        ahead.word() == word
+    }
+
+    // The next word, which has to be this one.
+    pub fn name(&mut self, name: &[u8]) -> Result<(), Unread> {
+        let start = self.here();
+        if self.word() == name {
+            Ok(())
+        } else {
+            Err(start)
         }
     }
-    Given {
-        word: words::wide(0),
-        at: bad(from),
-    }
-}
 
-// The same of a number which may be `most` and no larger.
-pub fn number_in(s: &[u8], from: usize, end: usize, most: u64) -> Taken {
-    let g = word_in(s, from, end, 64);
-    let value = words::capped(g.word);
-    if value <= most {
-        Taken { value, at: g.at }
-    } else {
-        Taken {
-            value: 0,
-            at: bad(from),
+    pub fn bracket(&mut self, b: u8) -> Result<(), Unread> {
+        self.skip_spaces();
+        match self.rest.split_first() {
+            Some((first, rest)) if *first == b => {
+                self.rest = rest;
+                Ok(())
+            }
+            _ => Err(self.here()),
         }
     }
-}
 
-// The next word as a number.
-pub fn number(s: &[u8], from: usize, most: u64) -> Taken {
-    let at = word_start(s, from);
-    number_in(s, at, word_end(s, at), most)
-}
+    pub fn is_closing(&self) -> bool {
+        let mut ahead = *self;
+        ahead.bracket(b']').is_ok()
+    }
 
-// An argument that is a header: its name, then the number.
-pub fn header(s: &[u8], from: usize, name: usize) -> Given {
-    let at = word_start(s, after(s, from, name));
-    word_in(s, at, word_end(s, at), 128)
-}
+    // The next word as a number below 2^bits.
+    pub fn number_below(&mut self, bits: u32) -> Result<Word, Unread> {
+        let start = self.here();
+        word_below(self.word(), bits).ok_or(start)
+    }
 
-// An argument that is a number: its name, then the number.
-pub fn named(s: &[u8], from: usize, name: usize, most: u64) -> Taken {
-    number(s, after(s, from, name), most)
-}
+    // The next word as a number of the type.
+    pub fn number<T: TryFrom<u64>>(&mut self) -> Result<T, Unread>
+    where
+        T::Error: Drop,
+    {
+        let start = self.here();
+        number_of(self.word()).ok_or(start)
+    }
 
-// An argument that a call may have not: it is 0 then.
-pub fn named_if(has: bool, s: &[u8], from: usize, name: usize, most: u64) -> Taken {
-    if has {
-        named(s, from, name, most)
-    } else {
-        Taken { value: 0, at: from }
+    // An argument that is a number: its name, then the number.
+    pub fn named<T: TryFrom<u64>>(&mut self, name: &[u8]) -> Result<T, Unread>
+    where
+        T::Error: Drop,
+    {
+        self.name(name)?;
+        self.number()
+    }
+
+    // An argument that is a header: its name, then the number.
+    pub fn header(&mut self, name: &[u8]) -> Result<Word, Unread> {
+        self.name(name)?;
+        self.number_below(128)
+    }
+
+    // The end of the case.
+    pub fn end(&mut self) -> Result<(), Unread> {
+        self.skip_spaces();
+        if self.rest.is_empty() {
+            Ok(())
+        } else {
+            Err(self.here())
+        }
     }
 }

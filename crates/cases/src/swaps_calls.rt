@@ -1,55 +1,54 @@
 // The calls on bit-swaps: the crates `swaps` and `prefixes`.
-use crate::source::{answer_at, header, named};
-use crate::{given, names, show};
+use crate::given::{bytes, one_rule};
+use crate::rules_calls::width_and_list;
+use crate::show;
+use crate::show::{Answer, whole};
+use crate::source::{Source, Unread};
 use rules::{Looked, Wire};
-use std::io::Print;
+use std::alloc::AllocError;
 use swaps::{MovedRule, Swap, SwapAnswer, ToSwapped, ToWire};
 use words::Word;
 
-// A swap, and the position after it.
-#[derive(Clone, Copy)]
-struct Given {
-    swap: Swap,
-    at: usize,
-}
-
 // An argument `swap`: its width, and its entries in brackets; those that are left out are 0.
-fn swap_in(s: &[u8], from: usize) -> Given {
-    let width = named(s, from, names::SWAP, 4294967295);
+fn read_swap(case: &mut Source) -> Result<Swap, Unread> {
+    let width = case.named(b"swap")?;
+    let start = case.here();
+    let entries = bytes(case)?;
     let mut places = [0u8; 128];
-    let f = given::bytes_to(s, width.at, &mut places);
-    Given {
-        swap: Swap {
-            places,
-            width: (width.value % 4294967296) as u32,
-        },
-        at: f.at,
+    if places.len() < entries.len() {
+        return Err(start);
     }
+    for (place, entry) in places.iter_mut().zip(entries.iter()) {
+        *place = *entry;
+    }
+    Ok(Swap { places, width })
 }
 
 // The swap of 128 places that leaves each where it is.
 fn still() -> Swap {
     let mut places = [0u8; 128];
-    for place in 0..128 {
-        places[place] = (place + 1) as u8;
+    for (place, number) in places.iter_mut().zip(1u8..) {
+        *place = number;
     }
     Swap { places, width: 128 }
 }
 
 // A header moved by one swap and moved back by another.
-fn moved(rt: &impl Print, w: &[u8], to: usize, there: Swap, back: Swap, header: Word) -> usize {
+fn put_moved(out: &mut String, there: Swap, back: Swap, header: Word) -> Result<(), AllocError> {
     match there.apply(Wire(header)) {
         ToSwapped::Header(x) => match back.undo(x) {
-            ToWire::Header(y) => show::wide_number(rt, w, to, y.0),
-            ToWire::Refused(y) => show::refusal(rt, w, to, y),
+            ToWire::Header(y) => write!(out, "{}", whole(y.0)),
+            ToWire::Refused(y) => y.put(out),
         },
-        ToSwapped::Refused(x) => show::refusal(rt, w, to, x),
+        ToSwapped::Refused(x) => x.put(out),
     }
 }
 
-pub fn show_swap(rt: &impl Print, w: &[u8], to: usize, a: SwapAnswer) -> usize {
-    let v = a.verdict;
-    show::swap(rt, w, show::verdict(rt, w, to, v), a.swap)
+impl Answer for SwapAnswer {
+    fn put(self, out: &mut String) -> Result<(), AllocError> {
+        self.verdict.put(out)?;
+        show::swap(out, self.swap)
+    }
 }
 
 // What the list answers to the swapped header with this number.
@@ -60,50 +59,66 @@ pub fn looked(width: u32, care: &[u64], value: &[u64], decision: &[u16], header:
     }
 }
 
-// The calls on a swap: each has an argument `swap`, and most of them another one.
-pub fn on_swap(rt: &impl Print, call: usize, s: &[u8], from: usize, w: &[u8], to: usize) -> usize {
-    let g = swap_in(s, from);
-    let swap = g.swap;
-    match call {
-        names::INVERT => show_swap(rt, w, answer_at(s, g.at, to), swap.invert()),
-        names::COMPOSE => {
-            let second = swap_in(s, g.at);
-            show_swap(
-                rt,
-                w,
-                answer_at(s, second.at, to),
-                swap.compose(second.swap),
-            )
-        }
-        names::APPLY_RULE => apply_rule(rt, swap, s, g.at, w, to),
-        _ => on_header(rt, call, swap, s, g.at, w, to),
+fn prefix_swap(case: &mut Source, out: &mut String) -> Result<(), Unread> {
+    let (width, l) = width_and_list(case)?;
+    case.end()?;
+    prefixes::prefix_swap(width, &l.care, &l.value, &l.decision).put(out)?;
+    Ok(())
+}
+
+fn invert(case: &mut Source, out: &mut String) -> Result<(), Unread> {
+    let swap = read_swap(case)?;
+    case.end()?;
+    swap.invert().put(out)?;
+    Ok(())
+}
+
+fn compose(case: &mut Source, out: &mut String) -> Result<(), Unread> {
+    let swap = read_swap(case)?;
+    let second = read_swap(case)?;
+    case.end()?;
+    swap.compose(second).put(out)?;
+    Ok(())
+}
+
+fn apply_rule(case: &mut Source, out: &mut String) -> Result<(), Unread> {
+    let swap = read_swap(case)?;
+    let rule = one_rule(case, b"rule")?;
+    case.end()?;
+    match swap.apply_rule(rule) {
+        MovedRule::Moved(moved) => show::rule(out, swap.width, moved)?,
+        MovedRule::Refused(x) => x.put(out)?,
     }
+    Ok(())
 }
 
 // A swapped header is shown as the wire header that the swap which moves nothing gives back for it, and any number is made a swapped
 // header by that swap.
-fn on_header(
-    rt: &impl Print,
-    call: usize,
-    swap: Swap,
-    s: &[u8],
-    from: usize,
-    w: &[u8],
-    to: usize,
-) -> usize {
-    let h = header(s, from, names::HEADER);
-    let at = answer_at(s, h.at, to);
-    match call {
-        names::APPLY => moved(rt, w, at, swap, still(), h.word),
-        _ => moved(rt, w, at, still(), swap, h.word),
-    }
+fn apply(case: &mut Source, out: &mut String) -> Result<(), Unread> {
+    let swap = read_swap(case)?;
+    let header = case.header(b"header")?;
+    case.end()?;
+    put_moved(out, swap, still(), header)?;
+    Ok(())
 }
 
-fn apply_rule(rt: &impl Print, swap: Swap, s: &[u8], from: usize, w: &[u8], to: usize) -> usize {
-    let r = given::one_rule(s, from, names::RULE);
-    let at = answer_at(s, r.at, to);
-    match swap.apply_rule(r.rule) {
-        MovedRule::Moved(moved) => show::rule(rt, w, at, swap.width, moved),
-        MovedRule::Refused(x) => show::refusal(rt, w, at, x),
-    }
+fn undo(case: &mut Source, out: &mut String) -> Result<(), Unread> {
+    let swap = read_swap(case)?;
+    let header = case.header(b"header")?;
+    case.end()?;
+    put_moved(out, still(), swap, header)?;
+    Ok(())
+}
+
+// Makes the call with this name, where it is one of these.
+pub fn make(name: &[u8], case: &mut Source, out: &mut String) -> Option<Result<(), Unread>> {
+    Some(match name {
+        b"apply_rule" => apply_rule(case, out),
+        b"apply" => apply(case, out),
+        b"undo" => undo(case, out),
+        b"invert" => invert(case, out),
+        b"compose" => compose(case, out),
+        b"prefix_swap" => prefix_swap(case, out),
+        _ => return None,
+    })
 }
