@@ -10,8 +10,11 @@ use std::rt::{Env, Files};
 // How much of a file is held at a time.
 const HELD: usize = 262144;
 
-// What is kept of that for the next part of the file, with the rest of a case: the first case of a part has at least 131,072 bytes.
+// A case that starts in the last so many bytes of a part is tried with the next part: a case and its answer have at most 131,072 bytes.
 const KEPT: usize = 131071;
+
+// How many parts of a file are read at most.
+const PARTS: usize = 1000000;
 
 // The first line of a text.
 fn first_line(s: &[u8]) -> &[u8] {
@@ -57,21 +60,22 @@ fn say_of(rt: &impl Print, path: &[u8], line: u64, words: &[u8], rest: &[u8]) {
 
 // Why a case could not be read: from which word on.
 fn say_unread(rt: &impl Print, path: &[u8], line: u64, case: &[u8], why: Unread) {
-    let (words, left): (&[u8], usize) = match why {
-        Unread::Call => (b": no such call: ", case.len()),
-        Unread::At(left) | Unread::Item(left) => (b": cannot read on from: ", left),
-        Unread::Memory => (b": no memory for: ", case.len()),
+    let left = match why {
+        Unread::At(left) | Unread::Item(left) => left,
+        Unread::Call | Unread::Memory => case.len(),
     };
     let rest = without_spaces(&case[case.len().saturating_sub(left)..]);
-    match why {
-        Unread::At(_) | Unread::Item(_) if rest.is_empty() => {
-            say_of(rt, path, line, b": the case ends too soon", rest)
-        }
-        _ => say_of(rt, path, line, words, first_line(rest)),
-    }
+    let words: &[u8] = match why {
+        Unread::Call => b": no such call: ",
+        Unread::Memory => b": no memory for: ",
+        _ if rest.is_empty() => b": the case ends too soon",
+        _ => b": cannot read on from: ",
+    };
+    say_of(rt, path, line, words, first_line(rest));
 }
 
-// Tries one case, and answers whether it failed. What it answers is said where that is not as the line beside it says, and where there is no such line.
+// Tries one case, and answers whether it failed. What it answers is said where the line beside it says something else, or there is no such
+// line.
 fn fails(
     rt: &impl Print,
     alloc: Global,
@@ -184,7 +188,7 @@ fn try_parts(rt: &impl Print, alloc: Global, path: &[u8], file: &mut impl Read) 
     };
     let mut held = 0;
     let mut left = 0;
-    for _ in 0..1000000 {
+    for _ in 0..PARTS {
         space.copy_within(held - left..held, 0);
         held = left + host::read_full(file, &mut space[left..]);
         if held == 0 {

@@ -36,7 +36,7 @@ fn check_room(held: usize, more: u64, most: usize, start: Unread) -> Result<(), 
     }
 }
 
-// What follows a number of a slice: itself, the next number, or what is left of it above its lowest byte, which alone is lent of it.
+// How the numbers of an item follow from its value: they are that number, or they go up from it, or they are its bytes, the lowest first.
 #[derive(Clone, Copy)]
 enum Way {
     Same,
@@ -44,23 +44,12 @@ enum Way {
     Bytes,
 }
 
-// Some numbers of a slice: how many, the first, and how they go on.
+// Some numbers of a slice, and how many they are.
 #[derive(Clone, Copy)]
 struct Item {
     value: Word,
     count: u64,
     way: Way,
-}
-
-fn rest_of(x: Word, way: Way) -> Word {
-    match way {
-        Way::Same => x,
-        Way::Up => words::plus(x, words::wide(1)),
-        Way::Bytes => Word {
-            low: x.low >> 8 | x.high << 56,
-            high: x.high >> 8,
-        },
-    }
 }
 
 // The two parts of a word beside the first byte of this kind.
@@ -144,16 +133,35 @@ fn next_item(case: &mut Source, bits: u32) -> Result<Item, Unread> {
     }
 }
 
+// Puts the numbers of an item at the end of a slice.
+fn put_numbers(item: Item, out: &mut Vec<Word>) -> Result<(), AllocFailed<Word>> {
+    match item.way {
+        Way::Same => {
+            for _ in 0..item.count {
+                out.push(item.value)?;
+            }
+        }
+        Way::Up => {
+            for k in 0..item.count {
+                out.push(words::plus(item.value, words::wide(k)))?;
+            }
+        }
+        Way::Bytes => {
+            let bytes = whole(item.value).to_le_bytes();
+            for b in bytes.iter().take(item.count as usize) {
+                out.push(words::wide(u64::from(*b)))?;
+            }
+        }
+    }
+    Ok(())
+}
+
 // Reads the next item into a slice, which holds at most so many numbers.
 fn put_item(case: &mut Source, bits: u32, most: usize, out: &mut Vec<Word>) -> Result<(), Unread> {
     let start = case.here();
     let item = next_item(case, bits)?;
     check_room(out.len(), item.count, most, start)?;
-    let mut x = item.value;
-    for _ in 0..item.count {
-        out.push(x)?;
-        x = rest_of(x, item.way);
-    }
+    put_numbers(item, out)?;
     Ok(())
 }
 
@@ -166,6 +174,7 @@ fn is_more(case: &Source) -> bool {
 fn words_after(case: &mut Source, bits: u32, most: usize) -> Result<Vec<Word>, Unread> {
     case.bracket(b'[')?;
     let mut all = Vec::new(case.alloc);
+    // Each item takes a byte of the case at least, so this goes to the end, with no measure to prove.
     for _ in 0..case.left() {
         if !is_more(case) {
             break;
@@ -207,6 +216,47 @@ pub fn read_numbers(case: &mut Source, name: &[u8]) -> Result<Vec<u64>, Unread> 
     Ok(all)
 }
 
+// The numbers in brackets, at most so many and each below 2^bits, which are numbers of the type.
+fn narrow<T: TryFrom<u64> + Drop>(
+    case: &mut Source,
+    bits: u32,
+    most: usize,
+) -> Result<Vec<T>, Unread>
+where
+    T::Error: Drop,
+{
+    let start = case.here();
+    let words = numbers(case, bits, most)?;
+    let mut all = Vec::new(case.alloc);
+    for x in words.iter() {
+        all.push(T::try_from(x.low).ok().ok_or(start)?)?;
+    }
+    Ok(all)
+}
+
+// An argument that is a slice of decisions, ids or counts.
+pub fn read_shorts(case: &mut Source, name: &[u8]) -> Result<Vec<u16>, Unread> {
+    case.name(name)?;
+    narrow(case, 16, MOST)
+}
+
+// An argument that is a slice of numbers of 32 bits, which five-field rules are lent in.
+pub fn read_fields(case: &mut Source, name: &[u8]) -> Result<Vec<u32>, Unread> {
+    case.name(name)?;
+    narrow(case, 32, MOST)
+}
+
+// The numbers in brackets as bytes.
+pub fn bytes(case: &mut Source) -> Result<Vec<u8>, Unread> {
+    narrow(case, 8, MOST_BYTES)
+}
+
+// An argument that is a slice of bytes.
+pub fn read_bytes(case: &mut Source, name: &[u8]) -> Result<Vec<u8>, Unread> {
+    case.name(name)?;
+    bytes(case)
+}
+
 // A word as a decision, where it is one.
 pub fn short(x: Word) -> Option<u16> {
     u16::try_from(words::capped(x)).ok()
@@ -215,35 +265,6 @@ pub fn short(x: Word) -> Option<u16> {
 // The lowest 32 bits of a word.
 pub fn field(x: Word) -> u32 {
     (x.low % 4294967296) as u32
-}
-
-// An argument that is a slice of decisions, ids or counts.
-pub fn read_shorts(case: &mut Source, name: &[u8]) -> Result<Vec<u16>, Unread> {
-    case.name(name)?;
-    let words = numbers(case, 16, MOST)?;
-    let shorts = words.iter().map(|x| (x.low % 65536) as u16);
-    Ok(shorts.collect(case.alloc)?)
-}
-
-// An argument that is a slice of numbers of 32 bits, which five-field rules are lent in.
-pub fn read_fields(case: &mut Source, name: &[u8]) -> Result<Vec<u32>, Unread> {
-    case.name(name)?;
-    let words = numbers(case, 32, MOST)?;
-    let fields = words.iter().map(|x| field(*x));
-    Ok(fields.collect(case.alloc)?)
-}
-
-// The numbers in brackets as bytes.
-pub fn bytes(case: &mut Source) -> Result<Vec<u8>, Unread> {
-    let words = numbers(case, 8, MOST_BYTES)?;
-    let bytes = words.iter().map(|x| (x.low % 256) as u8);
-    Ok(bytes.collect(case.alloc)?)
-}
-
-// An argument that is a slice of bytes.
-pub fn read_bytes(case: &mut Source, name: &[u8]) -> Result<Vec<u8>, Unread> {
-    case.name(name)?;
-    bytes(case)
 }
 
 // The care word and the value word of a pattern: `0` and `1` are cared for, `*` is not.
@@ -327,6 +348,7 @@ fn by_rules(case: &mut Source) -> Result<List, Unread> {
         value: Vec::new(case.alloc),
         decision: Vec::new(case.alloc),
     };
+    // Each item takes a byte of the case at least, so this goes to the end, with no measure to prove.
     for _ in 0..case.left() {
         if !is_more(case) {
             break;

@@ -3,7 +3,7 @@ use crate::given::List;
 use crate::runs::Runs;
 use compare::{Compared, Ending, Needed};
 use pairs::{Holds, Measured};
-use rules::{Hit, Looked, Refusal, Rule, Verdict};
+use rules::{Looked, Refusal, Rule, Verdict};
 use std::alloc::AllocError;
 use std::fmt;
 use std::fmt::Display;
@@ -148,7 +148,7 @@ impl fmt::Display for Shown {
     }
 }
 
-// The items of a slice, in brackets: 16 or more that are the same are shown as one.
+// The items of a slice: 16 or more that are the same are shown as one.
 fn items<T: PartialEq + Display>(
     out: &mut String,
     all: &[T],
