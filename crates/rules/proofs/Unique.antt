@@ -7,13 +7,13 @@ use Rattle.rules.specs.Rule.{Rule, held}
 use Rattle.words.specs.declared.Word.{Word}
 use Rattle.words.specs.Halves.{num}
 use Rattle.rules.specs.declared.Wire.{Wire}
-use Rattle.std.specs.Prelude.{Option, Result}
+use Rattle.std.specs.Prelude.{Option, Result, length}
 use Rattle.rules.specs.declared.Reason.{Reason}
 use Rattle.rules.specs.declared.Refusal.{Refusal}
 use Rattle.rules.specs.declared.Hit.{Hit}
 use Rattle.rules.specs.Slices.{rules_of, rule_at, Placed}
-use Rattle.rules.specs.Replies.{Refuses, number_of, verdict_reply, looked_reply}
-use Rattle.rules.specs.Checks.{width_check, header_check}
+use Rattle.rules.specs.Replies.{◌then◌, Refuses, number_of, verdict_reply, looked_reply}
+use Rattle.rules.specs.Checks.{width_check, lengths_check, header_check, room_check}
 use Rattle.rules.specs.Calls.{check_rule, check_list, looked_up}
 use Rattle.rules.proofs.ReplyLaws.{one-verdict, one-looked}
 
@@ -32,6 +32,15 @@ check-width-once w a b p q = one-verdict a b (both p q)
 -- `check_header`
 pub check-header-once : (w : ℕ) (h : Word) (a b : Result (Unit {0}) Refusal) → verdict_reply a ≡ header_check w (num h) → verdict_reply b ≡ header_check w (num h) → a ≡ b
 check-header-once w h a b p q = one-verdict a b (both p q)
+
+-- `check_room`
+pub check-room-once : (n m : ℕ) (a b : Result (Unit {0}) Refusal) → verdict_reply a ≡ room_check n m → verdict_reply b ≡ room_check n m → a ≡ b
+check-room-once n m a b p q = one-verdict a b (both p q)
+
+-- `check_results`
+pub check-results-once : (n : ℕ) (cs vs ds : List ℕ) (a b : Result (Unit {0}) Refusal) → verdict_reply a ≡ (lengths_check cs vs ds then room_check n (length ds))
+    → verdict_reply b ≡ (lengths_check cs vs ds then room_check n (length ds)) → a ≡ b
+check-results-once n cs vs ds a b p q = one-verdict a b (both p q)
 
 -- `check_rule`
 pub check-rule-once : (w l i : ℕ) (r : Rule) (a b : Result (Unit {0}) Refusal) → verdict_reply a ≡ check_rule w l i r → verdict_reply b ≡ check_rule w l i r → a ≡ b

@@ -8,7 +8,10 @@ mod checks;
 mod lookups;
 mod slices;
 
-pub use checks::{check_header, check_list, check_list_as, check_rule, check_width, refused};
+pub use checks::{
+    check_header, check_list, check_list_as, check_results, check_room, check_rule, check_width,
+    refused,
+};
 pub use lookups::{lookup, lookup_number};
 pub use slices::{put_rule, rule_at};
 use words::Word;
@@ -20,6 +23,22 @@ pub struct Rule {
     pub care: Word,
     pub value: Word,
     pub decision: u16,
+}
+
+// The rule of zeros: what a cleared place holds.
+pub const BLANK: Rule = Rule {
+    care: Word { low: 0, high: 0 },
+    value: Word { low: 0, high: 0 },
+    decision: 0,
+};
+
+// A list of rules, as it is lent: three slices that belong together. A care or a value word is two numbers of its slice, the low half first,
+// and a rule has one decision. Where a list is written, its slices are lent one by one: a struct of them loses what a part of a slice holds.
+#[derive(Clone, Copy)]
+pub struct RuleList<'a> {
+    pub care: &'a [u64],
+    pub value: &'a [u64],
+    pub decision: &'a [u16],
 }
 
 // A header in wire order.
