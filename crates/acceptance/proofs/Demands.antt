@@ -1,8 +1,8 @@
 -- What the call `accept` owes its user (request 13), read off its own promise: a candidate is accepted exactly when it may stand in for its
 -- source; the header of 28 is the lowest on which the lookups of the two lists differ, and the two answers are theirs; beside every other
--- verdict nothing stands.
+-- answer nothing stands.
 use Prim.Native.Nat.{ℕ, ◌^◌, ◌≤◌, ◌<◌}
-use mathlib.Core.Path.{◌≡◌, refl, sym, ap, ◌∙◌, subst}
+use mathlib.Core.Path.{◌≡◌, refl, sym, ap, ap₂, ◌∙◌, subst}
 use mathlib.Core.Logic.{◌≢◌, ◌↔◌, ⊎_elim}
 use mathlib.Core.List.{List, [], ◌∷◌}
 use native.Mathlib.Omega.{arith}
@@ -10,27 +10,40 @@ use lib.ListN.{length}
 use lib.Dec.{leb}
 use borrow.Author.Tests.{leb-true, leb-false}
 use Rattle.words.proofs.Tests.{split}
-use Rattle.words.specs.Halves.{num, halves}
-use Rattle.words.proofs.WordLaws.{holds}
+use Rattle.words.specs.Halves.{word, num, halves}
+use Rattle.words.proofs.WordLaws.{num-halves}
 use Rattle.rules.specs.declared.Refusal.{Refusal}
-use Rattle.rules.specs.declared.Verdict.{Verdict}
+use Rattle.rules.specs.declared.Reason.{Reason}
+use Rattle.rules.specs.declared.Wire.{Wire}
+use Rattle.std.specs.Prelude.{Result, Ok, Err}
 use Rattle.rules.specs.Rules.{answer}
 use Rattle.rules.specs.Slices.{rules_of}
-use Rattle.rules.specs.Replies.{Reply, Gives, Refuses, passed, ◌then◌, refusal, verdict_reply, unless_refused}
+use Rattle.rules.specs.Replies.{Reply, Gives, Refuses, passed, ◌then◌, number_of, refusal_reply, unless_refused}
 use Rattle.rules.specs.Checks.{Sound}
 use Rattle.rules.specs.Calls.{check_list, looked_up, decided, answered}
-use Rattle.rules.proofs.ReplyLaws.{then_next, then-refuses, then-second, need-passed, gives-refuses, one-verdict, bare-need, bare-then, Bare}
+use Rattle.rules.proofs.ReplyLaws.{then_next, then-refuses, then-second, need-passed, gives-refuses, one-refusal, bare-need, bare-then, Bare}
 use Rattle.rules.proofs.CheckLaws.{list-sound, list-given, sound-list}
 use Rattle.rules.proofs.AnswerLaws.{answered-once, looked-answered, decide-alike-within, decide-differently}
 use Rattle.compare.specs.Differing.{LowestDifference}
 use Rattle.compare.proofs.DifferLaws.{alike-exactly, difference-exactly, none-or-one, difference-lowest}
-use Rattle.acceptance.specs.declared.Accepted.{Accepted}
+use Rattle.acceptance.specs.declared.Rejection.{Rejection}
+use Rattle.acceptance.specs.Rejections.{refusal_of, accepted_reply, beside_values, header_told}
 use Rattle.acceptance.specs.Accepting.{Acceptable, longer_check, candidate_check, alike_check, of_lowest, lowest_unlike, accept_reply, beside, AcceptDone}
 use Rattle.acceptance.proofs.CallLaws.{longer-no, longer-yes, both-sound}
 use Rattle.acceptance.proofs.NumberLaws.{list-number, candidate-number}
 
 one_number : {n l r m k s : ℕ} → Refuses n l r ≡ Refuses m k s → n ≡ m
 one_number e = cc
+
+pub nothing : {n : ℕ} {ns : List ℕ} → [] ≡ n ∷ ns → ⊥
+nothing e = cc
+
+pub four-values : {a b c d i j k l : ℕ} → a ∷ b ∷ c ∷ d ∷ [] ≡ i ∷ j ∷ k ∷ l ∷ [] → (a ≡ i) × (b ≡ j) × (c ≡ k) × (d ≡ l)
+four-values e = (cc, cc, cc, cc)
+
+-- refusal 27, at no place
+abbrev pub longer : Refusal
+longer = record { reason = Reason.Longer; list = 0; rule = 0 }
 
 -- ---- the checks of two lists
 
@@ -82,24 +95,24 @@ module _ (w : ℕ) (sc sv sd cc cv cd : List ℕ) where
       go (Gives ns) (Refuses m k i) p q = absurd (let z : m ≡ n = one_number (sym (second (list-given w 1 sc sv sd p) q) ∙ c) in let y : ⊥ = omega (arith, list-number w 2 cc cv cd q) in y)
       go (Gives ns) (Gives ms) p q = last (list-given w 1 sc sv sd p) (list-given w 2 cc cv cd q)
 
-  -- a number of the lowest header, where all is passed before it
-  beside_at : (number : ℕ → ℕ) (h : ℕ) → candidate_check w sc sv sd cc cv cd ≡ passed → lowest_unlike w sc sv sd cc cv cd ≡ h ∷ []
-      → beside number w sc sv sd cc cv cd ≡ number h
+  -- the values of the lowest header, where all is passed before it
+  beside_at : (values : ℕ → List ℕ) (h : ℕ) → candidate_check w sc sv sd cc cv cd ≡ passed → lowest_unlike w sc sv sd cc cv cd ≡ h ∷ []
+      → beside values w sc sv sd cc cv cd ≡ values h
   unfolding beside
-  beside_at number h c e =
-      ap (λ (x : Reply). unless_refused x (of_lowest number (lowest_unlike w sc sv sd cc cv cd)) 0) c ∙ ap (of_lowest number) e
+  beside_at values h c e =
+      ap (λ (x : Reply). unless_refused x (of_lowest values (lowest_unlike w sc sv sd cc cv cd)) []) c ∙ ap (of_lowest values) e
 
-  beside_none : (number : ℕ → ℕ) → lowest_unlike w sc sv sd cc cv cd ≡ [] → beside number w sc sv sd cc cv cd ≡ 0
+  beside_none : (values : ℕ → List ℕ) → lowest_unlike w sc sv sd cc cv cd ≡ [] → beside values w sc sv sd cc cv cd ≡ []
   unfolding beside
-  beside_none number e = ap (λ (l : List ℕ). unless_refused (candidate_check w sc sv sd cc cv cd) (of_lowest number l) 0) e ∙ go (candidate_check w sc sv sd cc cv cd)
+  beside_none values e = ap (λ (l : List ℕ). unless_refused (candidate_check w sc sv sd cc cv cd) (of_lowest values l) []) e ∙ go (candidate_check w sc sv sd cc cv cd)
     where
-      go : (x : Reply) → ◌≡◌ {A = ℕ} (unless_refused x 0 0) 0
+      go : (x : Reply) → ◌≡◌ {A = List ℕ} (unless_refused x [] []) []
       go (Gives ns) = refl
       go (Refuses n l r) = refl
 
-  beside-refused : (number : ℕ → ℕ) {n l r : ℕ} → candidate_check w sc sv sd cc cv cd ≡ Refuses n l r → beside number w sc sv sd cc cv cd ≡ 0
+  beside-refused : (values : ℕ → List ℕ) {n l r : ℕ} → candidate_check w sc sv sd cc cv cd ≡ Refuses n l r → beside values w sc sv sd cc cv cd ≡ []
   unfolding beside
-  beside-refused number c = ap (λ (x : Reply). unless_refused x (of_lowest number (lowest_unlike w sc sv sd cc cv cd)) 0) c
+  beside-refused values c = ap (λ (x : Reply). unless_refused x (of_lowest values (lowest_unlike w sc sv sd cc cv cd)) []) c
 
   reply-at : (h : ℕ) → candidate_check w sc sv sd cc cv cd ≡ passed → lowest_unlike w sc sv sd cc cv cd ≡ h ∷ [] → accept_reply w sc sv sd cc cv cd ≡ Refuses 28 0 0
   unfolding accept_reply
@@ -126,24 +139,40 @@ module _ (w : ℕ) (sc sv sd cc cv cd : List ℕ) where
           let p = bare-candidate ns c in
           ⊎_elim (none p) (λ t. one t.0 p t.1) (none-or-one w (answer (rules_of sc sv sd)) (answer (rules_of cc cv cd)))
 
+-- ---- answers by what they tell
+
+-- accepted is passed, and only that
+accepted-passed : (r : Result (Unit {0}) Rejection) → accepted_reply r ≡ passed → r ≡ Ok tt
+accepted-passed (Ok x) e = refl
+accepted-passed (Err x) e = absurd (gives-refuses (sym e))
+
+-- a refusal of another number than 28 is that of a check
+refused-alone : (r : Result (Unit {0}) Rejection) (x : Refusal) → number_of x.reason ≢ 28 → accepted_reply r ≡ refusal_reply x → r ≡ Err (Rejection.Refused x)
+refused-alone (Ok y) x n e = absurd (gives-refuses e)
+refused-alone (Err (Rejection.Refused y)) x n e = ap (λ (z : Refusal). Err (Rejection.Refused z)) (one-refusal y x e)
+refused-alone (Err (Rejection.Differs h s c)) x n e = absurd (n (sym (one_number e)))
+
+-- where something stands beside the reply, that is a header with two answers
+something : (r : Result (Unit {0}) Rejection) {n : ℕ} {ns : List ℕ} → beside_values r ≡ n ∷ ns → (h : Wire) × (s : ℕ) × (c : ℕ) × (r ≡ Err (Rejection.Differs h s c))
+something (Ok x) e = absurd (nothing e)
+something (Err (Rejection.Refused x)) e = absurd (nothing e)
+something (Err (Rejection.Differs h s c)) e = (h, s, c, refl)
+
 -- ---- the call
 
-module _ (w : ℕ) (sc sv sd cc cv cd : List ℕ) (r : Accepted) (D : AcceptDone w sc sv sd cc cv cd r) where
-  said : (v : Verdict) → r.verdict ≡ v → accept_reply w sc sv sd cc cv cd ≡ verdict_reply v
-  said v e = sym D.reply ∙ ap verdict_reply e
-
-  says : (v : Verdict) → accept_reply w sc sv sd cc cv cd ≡ verdict_reply v → r.verdict ≡ v
-  says v e = one-verdict r.verdict v (D.reply ∙ e)
+module _ (w : ℕ) (sc sv sd cc cv cd : List ℕ) (r : Result (Unit {0}) Rejection) (D : AcceptDone w sc sv sd cc cv cd r) where
+  said : (v : Result (Unit {0}) Rejection) → r ≡ v → accept_reply w sc sv sd cc cv cd ≡ accepted_reply v
+  said v e = sym D.reply ∙ ap accepted_reply e
 
   -- A candidate is accepted exactly when both lists are valid, it has no more rules than the source, and every header gets the same answer
   -- from both.
-  pub accepted-exactly : (r.verdict ≡ Verdict.Fine) ↔ Acceptable w sc sv sd cc cv cd
+  pub accepted-exactly : (r ≡ Ok tt) ↔ Acceptable w sc sv sd cc cv cd
   unfolding lowest_unlike
   accepted-exactly = (there, back)
     where
-      there : r.verdict ≡ Verdict.Fine → Acceptable w sc sv sd cc cv cd
+      there : r ≡ Ok tt → Acceptable w sc sv sd cc cv cd
       there e =
-          three w sc sv sd cc cv cd (λ n l i c. absurd (gives-refuses (sym (said Verdict.Fine e) ∙ reply-refused w sc sv sd cc cv cd c)))
+          three w sc sv sd cc cv cd (λ n l i c. absurd (gives-refuses (sym (said (Ok tt) e) ∙ reply-refused w sc sv sd cc cv cd c)))
           (λ c none.
           let a = (candidate-exactly w sc sv sd cc cv cd).0 c in
           record {
@@ -152,24 +181,25 @@ module _ (w : ℕ) (sc sv sd cc cv cd : List ℕ) (r : Accepted) (D : AcceptDone
             no_longer = a.2;
             alike = (alike-exactly w (answer (rules_of sc sv sd)) (answer (rules_of cc cv cd))).0 none;
           })
-          (λ h c one. absurd (gives-refuses (sym (said Verdict.Fine e) ∙ reply-at w sc sv sd cc cv cd h c one)))
+          (λ h c one. absurd (gives-refuses (sym (said (Ok tt) e) ∙ reply-at w sc sv sd cc cv cd h c one)))
 
-      back : Acceptable w sc sv sd cc cv cd → r.verdict ≡ Verdict.Fine
+      back : Acceptable w sc sv sd cc cv cd → r ≡ Ok tt
       back A =
-          says Verdict.Fine
-          (reply-none w sc sv sd cc cv cd ((candidate-exactly w sc sv sd cc cv cd).1 (A.source_list, A.candidate_list, A.no_longer))
+          accepted-passed r
+          (D.reply
+          ∙ reply-none w sc sv sd cc cv cd ((candidate-exactly w sc sv sd cc cv cd).1 (A.source_list, A.candidate_list, A.no_longer))
           ((alike-exactly w (answer (rules_of sc sv sd)) (answer (rules_of cc cv cd))).1 A.alike))
 
   -- The lookups of an accepted candidate decide as those of its source: the same decision, no match where there is none, and the same
   -- refusal where the header is no header of the width.
-  pub accepted-lookup : r.verdict ≡ Verdict.Fine → (h : ℕ) → decided (looked_up w cc cv cd h) ≡ decided (looked_up w sc sv sd h)
+  pub accepted-lookup : r ≡ Ok tt → (h : ℕ) → decided (looked_up w cc cv cd h) ≡ decided (looked_up w sc sv sd h)
   accepted-lookup e h =
       let A = accepted-exactly.0 e in
       decide-alike-within w cc cv cd sc sv sd h (sound-list w 1 cc cv cd A.candidate_list) (sound-list w 1 sc sv sd A.source_list) (λ l. sym (A.alike h l))
 
   -- It is enough that the lookups decide alike: two lists that pass their checks, the candidate with no more rules.
   pub lookups-accepted : check_list w 1 sc sv sd ≡ passed → check_list w 1 cc cv cd ≡ passed → length cd ≤ length sd
-      → ((h : ℕ) → decided (looked_up w cc cv cd h) ≡ decided (looked_up w sc sv sd h)) → r.verdict ≡ Verdict.Fine
+      → ((h : ℕ) → decided (looked_up w cc cv cd h) ≡ decided (looked_up w sc sv sd h)) → r ≡ Ok tt
   lookups-accepted p q l alike =
       accepted-exactly.1 (record {
         source_list = list-sound w 1 sc sv sd p;
@@ -181,51 +211,64 @@ module _ (w : ℕ) (sc sv sd cc cv cd : List ℕ) (r : Accepted) (D : AcceptDone
   -- ---- refusal 27
 
   -- It is given exactly where both lists are valid and the candidate has more rules, whatever the lists answer.
-  pub longer-exactly : (r.verdict ≡ Verdict.Refused (refusal 27 0 0)) ↔ (Sound w sc sv sd × Sound w cc cv cd × (length sd < length cd))
+  pub longer-exactly : (r ≡ Err (Rejection.Refused longer)) ↔ (Sound w sc sv sd × Sound w cc cv cd × (length sd < length cd))
   longer-exactly = (there, back)
     where
-      there : r.verdict ≡ Verdict.Refused (refusal 27 0 0) → Sound w sc sv sd × Sound w cc cv cd × (length sd < length cd)
+      there : r ≡ Err (Rejection.Refused longer) → Sound w sc sv sd × Sound w cc cv cd × (length sd < length cd)
       there e =
           three w sc sv sd cc cv cd (λ n l i c. candidate-longer w sc sv sd cc cv cd (one_number (sym (reply-refused w sc sv sd cc cv cd c) ∙ said _ e)) c)
           (λ c none. absurd (gives-refuses (sym (reply-none w sc sv sd cc cv cd c none) ∙ said _ e)))
           (λ h c one. absurd (let z : ◌≡◌ {A = ℕ} 28 27 = one_number (sym (reply-at w sc sv sd cc cv cd h c one) ∙ said _ e) in let y : ⊥ = omega arith in y))
 
-      back : Sound w sc sv sd × Sound w cc cv cd × (length sd < length cd) → r.verdict ≡ Verdict.Refused (refusal 27 0 0)
-      back a = says _ (reply-refused w sc sv sd cc cv cd (longer-candidate w sc sv sd cc cv cd a.0 a.1 a.2))
+      back : Sound w sc sv sd × Sound w cc cv cd × (length sd < length cd) → r ≡ Err (Rejection.Refused longer)
+      back a =
+          refused-alone r longer (λ z. let y : ◌≡◌ {A = ℕ} 27 28 = z in let x : ⊥ = omega arith in x)
+          (D.reply ∙ reply-refused w sc sv sd cc cv cd (longer-candidate w sc sv sd cc cv cd a.0 a.1 a.2))
 
   -- ---- refusal 28
 
-  module _ (x : Refusal) (e : r.verdict ≡ Verdict.Refused x) (n : x.number ≡ 28) where
+  -- It always comes with a header and two answers.
+  pub unlike-named : (x : Rejection) → r ≡ Err x → number_of (refusal_of x).reason ≡ 28 → (h : Wire) × (s : ℕ) × (c : ℕ) × (r ≡ Err (Rejection.Differs h s c))
+  unlike-named x e n =
+      three w sc sv sd cc cv cd
+      (λ m l i c.
+      let q : m ≡ number_of (refusal_of x).reason = one_number (sym (reply-refused w sc sv sd cc cv cd c) ∙ said (Err x) e) in
+      absurd (let z : ⊥ = omega (arith, candidate-number w sc sv sd cc cv cd c) in z))
+      (λ c none. absurd (gives-refuses (sym (reply-none w sc sv sd cc cv cd c none) ∙ said (Err x) e)))
+      (λ h c one. something r (D.told ∙ beside_at w sc sv sd cc cv cd _ h c one))
+
+  module _ (x : Wire) (s c : ℕ) (e : r ≡ Err (Rejection.Differs x s c)) where
+    stands : beside (header_told (answer (rules_of sc sv sd)) (answer (rules_of cc cv cd))) w sc sv sd cc cv cd ≡ x.0.low ∷ x.0.high ∷ s ∷ c ∷ []
+    stands = sym D.told ∙ ap beside_values e
+
     -- there is a lowest header, and it stands beside the refusal
     unlike : (h : ℕ) × (candidate_check w sc sv sd cc cv cd ≡ passed) × (lowest_unlike w sc sv sd cc cv cd ≡ h ∷ [])
     unlike =
         three w sc sv sd cc cv cd
-        (λ m l i c.
-        let q : m ≡ x.number = one_number (sym (reply-refused w sc sv sd cc cv cd c) ∙ said (Verdict.Refused x) e) in
-        absurd (let z : ⊥ = omega (arith, candidate-number w sc sv sd cc cv cd c) in z))
-        (λ c none. absurd (gives-refuses (sym (reply-none w sc sv sd cc cv cd c none) ∙ said (Verdict.Refused x) e)))
+        (λ m l i c. absurd (nothing (sym (beside-refused w sc sv sd cc cv cd _ c) ∙ stands)))
+        (λ c none. absurd (nothing (sym (beside_none w sc sv sd cc cv cd _ none) ∙ stands)))
         (λ h c one. (h, c, one))
 
-    named : num r.header.0 ≡ unlike.0
-    named = holds (D.header ∙ ap halves (beside_at w sc sv sd cc cv cd (λ (h : ℕ). h) unlike.0 unlike.1 unlike.2))
+    values : (x.0.low ≡ (halves unlike.0).low) × (x.0.high ≡ (halves unlike.0).high) × (s ≡ answer (rules_of sc sv sd) unlike.0) × (c ≡ answer (rules_of cc cv cd) unlike.0)
+    values = four-values (sym stands ∙ beside_at w sc sv sd cc cv cd _ unlike.0 unlike.1 unlike.2)
+
+    named : num x.0 ≡ unlike.0
+    named = ap₂ (λ (a b : ℕ). num (word a b)) values.0 values.1 ∙ num-halves unlike.0
 
     -- Both lists are valid, and the candidate has no more rules.
     pub unlike-lists : Sound w sc sv sd × Sound w cc cv cd × (length cd ≤ length sd)
     unlike-lists = (candidate-exactly w sc sv sd cc cv cd).0 unlike.1
 
     -- The header is the lowest of the width on which the two lists answer differently.
-    pub unlike-header : LowestDifference w (answer (rules_of sc sv sd)) (answer (rules_of cc cv cd)) (num r.header.0)
+    pub unlike-header : LowestDifference w (answer (rules_of sc sv sd)) (answer (rules_of cc cv cd)) (num x.0)
     unfolding lowest_unlike
     unlike-header =
         subst (LowestDifference w (answer (rules_of sc sv sd)) (answer (rules_of cc cv cd))) (sym named)
         ((difference-exactly w (answer (rules_of sc sv sd)) (answer (rules_of cc cv cd)) unlike.0).0 unlike.2)
 
     -- The two answers are theirs.
-    pub unlike-answers : (r.source ≡ answer (rules_of sc sv sd) (num r.header.0)) × (r.candidate ≡ answer (rules_of cc cv cd) (num r.header.0))
-    unlike-answers = (
-      D.source ∙ beside_at w sc sv sd cc cv cd (answer (rules_of sc sv sd)) unlike.0 unlike.1 unlike.2 ∙ sym (ap (answer (rules_of sc sv sd)) named),
-      D.candidate ∙ beside_at w sc sv sd cc cv cd (answer (rules_of cc cv cd)) unlike.0 unlike.1 unlike.2 ∙ sym (ap (answer (rules_of cc cv cd)) named),
-    )
+    pub unlike-answers : (s ≡ answer (rules_of sc sv sd) (num x.0)) × (c ≡ answer (rules_of cc cv cd) (num x.0))
+    unlike-answers = (values.2 ∙ sym (ap (answer (rules_of sc sv sd)) named), values.3 ∙ sym (ap (answer (rules_of cc cv cd)) named))
 
     source-passes : check_list w 1 sc sv sd ≡ passed
     source-passes = sound-list w 1 sc sv sd unlike-lists.0
@@ -234,9 +277,9 @@ module _ (w : ℕ) (sc sv sd cc cv cd : List ℕ) (r : Accepted) (D : AcceptDone
     candidate-passes = sound-list w 1 cc cv cd unlike-lists.1
 
     -- The same told by lookups: looked up in the two lists the header gets the two answers, and they are not the same.
-    pub unlike-looked : (decided (looked_up w sc sv sd (num r.header.0)) ≡ answered r.source)
-        × (decided (looked_up w cc cv cd (num r.header.0)) ≡ answered r.candidate)
-        × (decided (looked_up w sc sv sd (num r.header.0)) ≢ decided (looked_up w cc cv cd (num r.header.0)))
+    pub unlike-looked : (decided (looked_up w sc sv sd (num x.0)) ≡ answered s)
+        × (decided (looked_up w cc cv cd (num x.0)) ≡ answered c)
+        × (decided (looked_up w sc sv sd (num x.0)) ≢ decided (looked_up w cc cv cd (num x.0)))
     unlike-looked =
         let l = unlike-header.below in (
           looked-answered w sc sv sd _ source-passes l ∙ sym (ap answered unlike-answers.0),
@@ -245,25 +288,27 @@ module _ (w : ℕ) (sc sv sd cc cv cd : List ℕ) (r : Accepted) (D : AcceptDone
         )
 
     -- Every lower header is decided alike.
-    pub alike-below : (h : ℕ) → h < num r.header.0 → decided (looked_up w sc sv sd h) ≡ decided (looked_up w cc cv cd h)
+    pub alike-below : (h : ℕ) → h < num x.0 → decided (looked_up w sc sv sd h) ≡ decided (looked_up w cc cv cd h)
     alike-below h l = decide-alike-within w sc sv sd cc cv cd h source-passes candidate-passes (λ m. unlike-header.lowest h l)
 
   -- Two valid lists, no longer, and some header of the width that gets another answer: that is refused 28.
   pub unlike-refused : Sound w sc sv sd → Sound w cc cv cd → length cd ≤ length sd
-      → (h : ℕ) → h < 2 ^ w → answer (rules_of sc sv sd) h ≢ answer (rules_of cc cv cd) h → r.verdict ≡ Verdict.Refused (refusal 28 0 0)
+      → (h : ℕ) → h < 2 ^ w → answer (rules_of sc sv sd) h ≢ answer (rules_of cc cv cd) h
+      → (x : Wire) × (s : ℕ) × (c : ℕ) × (r ≡ Err (Rejection.Differs x s c))
   unfolding lowest_unlike
   unlike-refused S T l h m d =
       let x = difference-lowest w (answer (rules_of sc sv sd)) (answer (rules_of cc cv cd)) h m d in
-      says (Verdict.Refused (refusal 28 0 0))
-      (reply-at w sc sv sd cc cv cd x.0 ((candidate-exactly w sc sv sd cc cv cd).1 (S, T, l))
+      something r
+      (D.told
+      ∙ beside_at w sc sv sd cc cv cd _ x.0 ((candidate-exactly w sc sv sd cc cv cd).1 (S, T, l))
       ((difference-exactly w (answer (rules_of sc sv sd)) (answer (rules_of cc cv cd)) x.0).1 x.1))
 
-  -- ---- every other verdict
+  -- ---- every other answer
 
-  -- Nothing stands beside it: header and answers are 0.
-  pub nothing-beside : (r.verdict ≢ Verdict.Refused (refusal 28 0 0)) → (r.header.0 ≡ halves 0) × (r.source ≡ 0) × (r.candidate ≡ 0)
+  -- Nothing stands beside it.
+  pub nothing-beside : accepted_reply r ≢ Refuses 28 0 0 → beside_values r ≡ []
   nothing-beside n =
       three w sc sv sd cc cv cd
-      (λ m l i c. (D.header ∙ ap halves (beside-refused w sc sv sd cc cv cd _ c), D.source ∙ beside-refused w sc sv sd cc cv cd _ c, D.candidate ∙ beside-refused w sc sv sd cc cv cd _ c))
-      (λ c none. (D.header ∙ ap halves (beside_none w sc sv sd cc cv cd _ none), D.source ∙ beside_none w sc sv sd cc cv cd _ none, D.candidate ∙ beside_none w sc sv sd cc cv cd _ none))
-      (λ h c one. absurd (n (says (Verdict.Refused (refusal 28 0 0)) (reply-at w sc sv sd cc cv cd h c one))))
+      (λ m l i c. D.told ∙ beside-refused w sc sv sd cc cv cd _ c)
+      (λ c none. D.told ∙ beside_none w sc sv sd cc cv cd _ none)
+      (λ h c one. absurd (n (D.reply ∙ reply-at w sc sv sd cc cv cd h c one)))

@@ -19,9 +19,9 @@ use Rattle.acceptance.specs.Accepting.{longer_check, candidate_check, lowest_unl
 abbrev replied : (w : ℕ) → (source candidate : List Rule) → Reply
 replied w s c = accept_reply w (cares_of s) (values_of s) (decisions_of s) (cares_of c) (values_of c) (decisions_of c)
 
--- a number of the lowest header beside it
-abbrev shown : (number : ℕ → ℕ) → (w : ℕ) → (source candidate : List Rule) → ℕ
-shown number w s c = beside number w (cares_of s) (values_of s) (decisions_of s) (cares_of c) (values_of c) (decisions_of c)
+-- a number of the lowest header beside it; none where there is no such header
+abbrev shown : (number : ℕ → ℕ) → (w : ℕ) → (source candidate : List Rule) → List ℕ
+shown number w s c = beside (λ (h : ℕ). number h ∷ []) w (cares_of s) (values_of s) (decisions_of s) (cares_of c) (values_of c) (decisions_of c)
 
 -- ---- rules exchanged
 
@@ -38,11 +38,11 @@ pub exchanged-unlike : replied 3 source exchanged ≡ Refuses 28 0 0
 unfolding accept_reply candidate_check longer_check lowest_unlike lowest_difference lowest_from differ_on check_list width_check list_check lengths_check size_check rules_check rule_check pattern_fits zipped words_of halves_of num halves first matches
 exchanged-unlike = refl
 
-pub exchanged-header : shown (λ (h : ℕ). h) 3 source exchanged ≡ 3
+pub exchanged-header : shown (λ (h : ℕ). h) 3 source exchanged ≡ 3 ∷ []
 unfolding beside candidate_check longer_check lowest_unlike lowest_difference lowest_from differ_on check_list width_check list_check lengths_check size_check rules_check rule_check pattern_fits zipped words_of halves_of num halves first matches
 exchanged-header = refl
 
-pub exchanged-answers : (shown (answer source) 3 source exchanged ≡ 1) × (shown (answer exchanged) 3 source exchanged ≡ 2)
+pub exchanged-answers : (shown (answer source) 3 source exchanged ≡ 1 ∷ []) × (shown (answer exchanged) 3 source exchanged ≡ 2 ∷ [])
 unfolding beside candidate_check longer_check lowest_unlike lowest_difference lowest_from differ_on check_list width_check list_check lengths_check size_check rules_check rule_check pattern_fits zipped words_of halves_of num halves first matches
 exchanged-answers = (refl, refl)
 
@@ -64,6 +64,6 @@ unfolding accept_reply candidate_check longer_check lowest_unlike lowest_differe
 longer-refused = (refl, refl)
 
 -- The empty list for a list that decides something: no match stands against its answer.
-pub empty-unlike : (replied 3 (rule 4 4 1 ∷ []) [] ≡ Refuses 28 0 0) × (shown (λ (h : ℕ). h) 3 (rule 4 4 1 ∷ []) [] ≡ 4) × (shown (answer []) 3 (rule 4 4 1 ∷ []) [] ≡ 65535)
+pub empty-unlike : (replied 3 (rule 4 4 1 ∷ []) [] ≡ Refuses 28 0 0) × (shown (λ (h : ℕ). h) 3 (rule 4 4 1 ∷ []) [] ≡ 4 ∷ []) × (shown (answer []) 3 (rule 4 4 1 ∷ []) [] ≡ 65535 ∷ [])
 unfolding accept_reply beside candidate_check longer_check lowest_unlike lowest_difference lowest_from differ_on check_list width_check list_check lengths_check size_check rules_check rule_check pattern_fits zipped words_of halves_of num halves first matches
 empty-unlike = (refl, refl, refl)

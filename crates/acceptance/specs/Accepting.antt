@@ -1,13 +1,14 @@
 -- Accepting a candidate list for a source list, whoever made it (request 13): what the call replies, and what stands beside the reply.
-use Rattle.std.specs.Prelude.{ℕ, ◌≤◌, ◌≡◌, List, [], ◌∷◌, leb, length}
-use Rattle.words.specs.Halves.{halves}
+use Rattle.std.specs.Prelude.{ℕ, ◌≤◌, ◌≡◌, List, [], ◌∷◌, leb, length, Result}
+use Rattle.rules.specs.declared.RuleList.{RuleList}
 use Rattle.rules.specs.Rules.{answer}
 use Rattle.rules.specs.Slices.{rules_of}
-use Rattle.rules.specs.Replies.{Reply, Refuses, passed, need, ◌then◌, verdict_reply, unless_refused}
+use Rattle.rules.specs.Replies.{Reply, Refuses, passed, need, ◌then◌, unless_refused}
 use Rattle.rules.specs.Checks.{Sound}
 use Rattle.rules.specs.Calls.{check_list}
 use Rattle.compare.specs.Differing.{lowest_difference, AlikeEverywhere}
-use Rattle.acceptance.specs.declared.Accepted.{Accepted}
+use Rattle.acceptance.specs.declared.Rejection.{Rejection}
+use Rattle.acceptance.specs.Rejections.{accepted_reply, beside_values, header_told}
 
 -- What a candidate has to be: both lists are valid at the width, it has no more rules than the source, and every header gets the same answer
 -- from both, a plain one as a lookup gives it. That it is accepted exactly then is the theorem `accepted-exactly`.
@@ -33,10 +34,10 @@ abbrev pub alike_check : List ℕ → Reply
 alike_check [] = passed
 alike_check (h ∷ hs) = Refuses 28 0 0
 
--- A number of that header; 0 where there is none.
-abbrev pub of_lowest : (number : ℕ → ℕ) → List ℕ → ℕ
-of_lowest number [] = 0
-of_lowest number (h ∷ hs) = number h
+-- Values of that header; none where there is no such header.
+abbrev pub of_lowest : (values : ℕ → List ℕ) → List ℕ → List ℕ
+of_lowest values [] = []
+of_lowest values (h ∷ hs) = values h
 
 -- The lowest header of the width that gets another answer from the candidate than from the source.
 unfoldable pub lowest_unlike : (w : ℕ) → (sc sv sd cc cv cd : List ℕ) → List ℕ
@@ -46,14 +47,20 @@ lowest_unlike w sc sv sd cc cv cd = lowest_difference w (answer (rules_of sc sv 
 unfoldable pub accept_reply : (w : ℕ) → (sc sv sd cc cv cd : List ℕ) → Reply
 accept_reply w sc sv sd cc cv cd = candidate_check w sc sv sd cc cv cd then alike_check (lowest_unlike w sc sv sd cc cv cd)
 
--- What stands beside the reply: a number of that header beside 28, and 0 in every other case.
-unfoldable pub beside : (number : ℕ → ℕ) → (w : ℕ) → (sc sv sd cc cv cd : List ℕ) → ℕ
-beside number w sc sv sd cc cv cd =
-    unless_refused (candidate_check w sc sv sd cc cv cd) (of_lowest number (lowest_unlike w sc sv sd cc cv cd)) 0
+-- What stands beside the reply: values of that header beside 28, and none in every other case.
+unfoldable pub beside : (values : ℕ → List ℕ) → (w : ℕ) → (sc sv sd cc cv cd : List ℕ) → List ℕ
+beside values w sc sv sd cc cv cd =
+    unless_refused (candidate_check w sc sv sd cc cv cd) (of_lowest values (lowest_unlike w sc sv sd cc cv cd)) []
 
--- The promise of `accept`: the reply, the header, and what source and candidate answer to it.
-pub record AcceptDone (w : ℕ) (sc sv sd cc cv cd : List ℕ) (r : Accepted) : Type 0 where
-  pub reply : verdict_reply r.verdict ≡ accept_reply w sc sv sd cc cv cd
-  pub header : r.header.0 ≡ halves (beside (λ (h : ℕ). h) w sc sv sd cc cv cd)
-  pub source : r.source ≡ beside (answer (rules_of sc sv sd)) w sc sv sd cc cv cd
-  pub candidate : r.candidate ≡ beside (answer (rules_of cc cv cd)) w sc sv sd cc cv cd
+-- The promise of `accept`: the reply, and beside it the header with what source and candidate answer to it.
+pub record AcceptDone (w : ℕ) (sc sv sd cc cv cd : List ℕ) (r : Result (Unit {0}) Rejection) : Type 0 where
+  pub reply : accepted_reply r ≡ accept_reply w sc sv sd cc cv cd
+  pub told : beside_values r ≡ beside (header_told (answer (rules_of sc sv sd)) (answer (rules_of cc cv cd))) w sc sv sd cc cv cd
+
+-- ---- the same of two lists as they are lent
+
+abbrev pub candidate_check_in : (w : ℕ) → (source candidate : RuleList) → Reply
+candidate_check_in w s c = candidate_check w s.care.now s.value.now s.decision.now c.care.now c.value.now c.decision.now
+
+abbrev pub AcceptDoneIn : (w : ℕ) → (source candidate : RuleList) → Result (Unit {0}) Rejection → Type 0
+AcceptDoneIn w s c r = AcceptDone w s.care.now s.value.now s.decision.now c.care.now c.value.now c.decision.now r

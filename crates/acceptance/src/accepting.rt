@@ -1,142 +1,67 @@
 // A candidate list is held to its source: the checks of both lists, their lengths, then every header, by the comparison.
 ghost use Rattle.std.specs.Prelude.{◌≡◌};
 ghost use Rattle.rules.specs.Rules.{answer};
-ghost use Rattle.rules.specs.Slices.{rules_of};
+ghost use Rattle.rules.specs.Slices.{rules_in};
 ghost use Rattle.rules.specs.Replies.{verdict_reply};
-ghost use Rattle.rules.specs.Checks.{Sound};
-ghost use Rattle.acceptance.specs.Accepting.{candidate_check, AcceptDone};
-ghost use Rattle.acceptance.specs.Inner.{Alone, Judged};
+ghost use Rattle.rules.specs.Checks.{SoundIn};
+ghost use Rattle.acceptance.specs.Accepting.{candidate_check_in, AcceptDoneIn};
+ghost use Rattle.acceptance.specs.Inner.{Judged};
 
-use crate::Accepted;
+use crate::Rejection;
 use compare::compare;
-use rules::{Verdict, Wire, check_list_as, refused};
+use rules::{Reason, Refusal, RuleList, Wire, check_list_as, refused};
 use words::{Word, word_at};
 
-// A verdict with no header beside it.
-fn alone(verdict: Verdict) -> Accepted
-    ensures { Alone verdict result }
-{
-    Accepted {
-        verdict,
-        header: Wire(Word { low: 0, high: 0 }),
-        source: 0,
-        candidate: 0,
-    }
-}
-
 // What is tested before any header is looked at: 1 to 5 of the source and then of the candidate, which is list 2, and 27.
-fn candidate_verdict(
-    width: u32,
-    source_care: &[u64],
-    source_value: &[u64],
-    source_decision: &[u16],
-    candidate_care: &[u64],
-    candidate_value: &[u64],
-    candidate_decision: &[u16],
-) -> Verdict
-    ensures { verdict_reply result
-        ≡ candidate_check width source_care.now source_value.now source_decision.now
-        candidate_care.now candidate_value.now candidate_decision.now }
+#[tactic(auto, using(rules::proofs::ReplyLaws::passing, std::proofs::lemmas::Bool::Decides::nat_tests), unfolding(crate::specs::Accepting::candidate_check, crate::specs::Accepting::longer_check))]
+fn check_candidate(width: u32, source: RuleList, candidate: RuleList) -> Result<(), Refusal>
+    ensures { verdict_reply result ≡ candidate_check_in width source.entry candidate.entry }
 {
-    let source = check_list_as(1, width, source_care, source_value, source_decision);
-    let Verdict::Fine = source else {
-        return source;
-    };
-    let candidate = check_list_as(
-        2,
-        width,
-        candidate_care,
-        candidate_value,
-        candidate_decision,
-    );
-    let Verdict::Fine = candidate else {
-        return candidate;
-    };
-    if candidate_decision.len() > source_decision.len() {
-        return refused(27, 0, 0);
+    check_list_as(1, width, source)?;
+    check_list_as(2, width, candidate)?;
+    if candidate.decision.len() > source.decision.len() {
+        return refused(Reason::Longer, 0, 0);
     }
-    Verdict::Fine
+    Ok(())
 }
 
-// Compares two lists that have passed their checks. One result place is enough: the first run of differences starts at the lowest header
-// on which they answer differently.
-fn judged(
-    width: u32,
-    source_care: &[u64],
-    source_value: &[u64],
-    source_decision: &[u16],
-    candidate_care: &[u64],
-    candidate_value: &[u64],
-    candidate_decision: &[u16],
-) -> Accepted
-    requires { Sound width source_care.now source_value.now source_decision.now
-        × Sound width candidate_care.now candidate_value.now candidate_decision.now }
-    ensures { Judged width (answer (rules_of source_care.now source_value.now source_decision.now))
-        (answer (rules_of candidate_care.now candidate_value.now candidate_decision.now)) result }
+// Compares two lists that have passed their checks, so that the comparison is not refused. One result place is enough: the first run of
+// differences starts at the lowest header on which they answer differently.
+fn judged(width: u32, source: RuleList, candidate: RuleList) -> Result<(), Rejection>
+    requires { SoundIn width source × SoundIn width candidate }
+    ensures { Judged width (answer (rules_in source.entry)) (answer (rules_in candidate.entry)) result }
 {
-    let mut first = [0u64; 2];
-    let mut last = [0u64; 2];
-    let mut source = [0u16; 1];
-    let mut candidate = [0u16; 1];
+    let mut first = [0; 2];
+    let mut last = [0; 2];
+    let mut old = [0; 1];
+    let mut new = [0; 1];
     let compared = compare(
         width,
-        source_care,
-        source_value,
-        source_decision,
-        candidate_care,
-        candidate_value,
-        candidate_decision,
-        Wire(Word { low: 0, high: 0 }),
+        source,
+        candidate,
+        Wire(Word::from(0)),
         &mut first,
         &mut last,
-        &mut source,
-        &mut candidate,
-    );
+        &mut old,
+        &mut new,
+    )
+    .unwrap();
     if compared.count == 0 {
-        return alone(Verdict::Fine);
+        return Ok(());
     }
-    Accepted {
-        verdict: refused(28, 0, 0),
+    Err(Rejection::Differs {
         header: Wire(word_at(&first, 0)),
-        source: source[0],
-        candidate: candidate[0],
-    }
+        source: old[0],
+        candidate: new[0],
+    })
 }
 
 // Accepts a candidate list for a source list, whoever made it: both are valid lists of the width, the candidate has no more rules, and
 // every header gets the same answer from both. Refusals: 1; 2 to 5 of the source, then of the candidate, which is list 2; 27 where the
 // candidate has more rules than the source; 28 where an answer differs, with the lowest such header and both answers.
-pub fn accept(
-    width: u32,
-    source_care: &[u64],
-    source_value: &[u64],
-    source_decision: &[u16],
-    candidate_care: &[u64],
-    candidate_value: &[u64],
-    candidate_decision: &[u16],
-) -> Accepted
-    ensures { AcceptDone width source_care.now source_value.now source_decision.now
-        candidate_care.now candidate_value.now candidate_decision.now result }
+pub fn accept(width: u32, source: RuleList, candidate: RuleList) -> Result<(), Rejection>
+    ensures { AcceptDoneIn width source.entry candidate.entry result }
 {
-    let verdict = candidate_verdict(
-        width,
-        source_care,
-        source_value,
-        source_decision,
-        candidate_care,
-        candidate_value,
-        candidate_decision,
-    );
-    let Verdict::Fine = verdict else {
-        return alone(verdict);
-    };
-    judged(
-        width,
-        source_care,
-        source_value,
-        source_decision,
-        candidate_care,
-        candidate_value,
-        candidate_decision,
-    )
+    check_candidate(width, source, candidate)?;
+    judged(width, source, candidate)
 }

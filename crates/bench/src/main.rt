@@ -2,7 +2,6 @@
 // of headers on which these answer differently. A file that is not there is read as one of no bytes.
 #![tactic(auto)]
 
-use compare::Ending;
 use host::{say, say_number};
 
 // There is room for a byte more than the largest image, so that a larger file is refused and not cut.
@@ -10,11 +9,9 @@ fn main(rt: HostRuntime) {
     let mut old = [0u8; 65537];
     let mut new = [0u8; 65537];
     let held = run_lines::show_files(&rt, b"old.img", b"new.img", &mut old, &mut new);
-    let compared = held.compared;
-    let ending = compared.ending;
-    if let Ending::Refused(x) = ending {
+    if let Err(x) = held.compared {
         say(&rt, b"refused ");
-        say_number(&rt, x.number as u64);
+        say_number(&rt, x.reason.number() as u64);
         say(&rt, b"\n");
     }
 }

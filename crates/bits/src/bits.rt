@@ -6,51 +6,11 @@ ghost use Rattle.words.specs.Halves.{num, halves, limit};
 
 use words::Word;
 
-// The bits that both have.
-pub fn and(a: Word, b: Word) -> Word
-    ensures { result ≡ halves (bit_and (num a) (num b)) }
-{
-    Word {
-        low: a.low & b.low,
-        high: a.high & b.high,
-    }
-}
-
-// The bits that one or both have.
-pub fn or(a: Word, b: Word) -> Word
-    ensures { result ≡ halves (bit_or (num a) (num b)) }
-{
-    Word {
-        low: a.low | b.low,
-        high: a.high | b.high,
-    }
-}
-
-// The bits that one has and the other has not.
-pub fn xor(a: Word, b: Word) -> Word
-    ensures { result ≡ halves (bit_xor (num a) (num b)) }
-{
-    Word {
-        low: a.low ^ b.low,
-        high: a.high ^ b.high,
-    }
-}
-
 // The bits of a that b does not have.
 pub fn without(a: Word, b: Word) -> Word
     ensures { result ≡ halves (without_of (num a) (num b)) }
 {
-    and(a, flip(b))
-}
-
-// All 128 bits turned over.
-pub fn flip(a: Word) -> Word
-    ensures { result ≡ halves (limit - 1 - num a) }
-{
-    Word {
-        low: 18446744073709551615 - a.low,
-        high: 18446744073709551615 - a.high,
-    }
+    a & !b
 }
 
 // The number of set bits. Most words of narrow lists have none in the high half, and a count takes more than a test.

@@ -2,7 +2,6 @@
 ghost use Rattle.std.specs.Prelude.{◌≡◌, ◌-◌, ◌%◌, ◌^◌, min};
 ghost use Rattle.words.specs.Halves.{halves, limit};
 
-use crate::bits::flip;
 use words::Word;
 
 // 2^k: no bit at all from 128 on.
@@ -36,13 +35,13 @@ pub fn lowest(k: u32) -> Word
     }
     if k < 128 {
         return Word {
-            low: 18446744073709551615,
+            low: u64::MAX,
             high: (1u64 << (k - 64)) - 1,
         };
     }
     Word {
-        low: 18446744073709551615,
-        high: 18446744073709551615,
+        low: u64::MAX,
+        high: u64::MAX,
     }
 }
 
@@ -50,5 +49,5 @@ pub fn lowest(k: u32) -> Word
 pub fn upper(k: u32) -> Word
     ensures { result ≡ halves (limit - 2 ^ min k 128) }
 {
-    flip(lowest(k))
+    !lowest(k)
 }

@@ -1,32 +1,21 @@
 -- Laws of words that are compared byte by byte, and of a command line that ends in defaults.
-use mathlib.Core.Path.{◌≡◌, refl}
+use mathlib.Core.Path.{◌≡◌, refl, ap}
 use mathlib.Core.List.{List, [], ◌∷◌}
-use mathlib.Core.Bool.{Bool, true}
+use mathlib.Core.Bool.{Bool, true, ◌&&◌}
 use Prim.Native.Nat.{ℕ, ◌≤◌}
 use lib.Dec.{eqb, leb}
 use borrow.Author.Tests.{leb-true}
-use Rattle.words.proofs.Tests.{eqb_yes, yes_eqb, and-true, true-and, true-false, same_test}
+use Rattle.words.proofs.Tests.{and-true}
+use lib.Pointwise.{pointwise}
 use Rattle.command_line.specs.Words.{same_bytes, names_defaults}
 
-same-itself : (xs : List ℕ) → same_bytes xs xs ≡ true
+-- What `==` on two slices says, in this crate's words.
+pub same_pointwise : (xs ys : List ℕ) → pointwise eqb xs ys ≡ same_bytes xs ys
 unfolding same_bytes
-same-itself [] = refl
-same-itself (x ∷ xs) = true-and (yes_eqb x x refl) (same-itself xs)
-
-same-equal : (xs ys : List ℕ) → same_bytes xs ys ≡ true → xs ≡ ys
-unfolding same_bytes
-same-equal [] [] e = refl
-same-equal [] (y ∷ ys) e = absurd (true-false e refl)
-same-equal (x ∷ xs) [] e = absurd (true-false e refl)
-same-equal (x ∷ xs) (y ∷ ys) e =
-    let both : (eqb x y ≡ true) × (same_bytes xs ys ≡ true) = and-true _ _ e in
-    let p : x ≡ y = eqb_yes x y both.0 in
-    let q : xs ≡ ys = same-equal xs ys both.1 in cc
-
--- A test that is true exactly of equal words.
-pub same-decided : (t : Bool) (xs ys : List ℕ) → (t ≡ true → xs ≡ ys) → (xs ≡ ys → t ≡ true) → t ≡ same_bytes xs ys
-same-decided t xs ys f g =
-    same_test t (same_bytes xs ys) (λ e. rw (f e) (same-itself ys)) (λ e. g (same-equal xs ys e))
+same_pointwise [] [] = refl
+same_pointwise [] (y ∷ ys) = refl
+same_pointwise (x ∷ xs) [] = refl
+same_pointwise (x ∷ xs) (y ∷ ys) = ap (λ (t : Bool). eqb x y && t) (same_pointwise xs ys)
 
 -- A comparison that ends in its defaults has at least seven words.
 pub defaults-long : (word last_but_two : List ℕ) (words : ℕ) → names_defaults word last_but_two words ≡ true → 7 ≤ words

@@ -1,5 +1,5 @@
 -- Which command the words of a command line ask for.
-use Rattle.std.specs.Prelude.{ℕ, ◌-◌, List, [], ◌∷◌, Bool, true, false, ◌&&◌, eqb, leb}
+use Rattle.std.specs.Prelude.{ℕ, ◌-◌, List, [], ◌∷◌, Bool, true, false, ◌&&◌, eqb, leb, Some, None}
 use Rattle.command_line.specs.declared.Command.{Command}
 use Rattle.command_line.specs.declared.Wanted.{Wanted}
 
@@ -76,5 +76,5 @@ wanted_if false a b = b
 unfoldable pub wanted_of : (word last_but_two : List ℕ) (words : ℕ) → Wanted
 wanted_of word last_but_two words =
     wanted_if (names_defaults word last_but_two words)
-    (record { command = command_of word (words - 3); old = words - 2; new = words - 1 })
-    (record { command = command_of word words; old = 0; new = 0 })
+    (record { command = command_of word (words - 3); defaults = Some (record { old = words - 2; new = words - 1 }) })
+    (record { command = command_of word words; defaults = None })

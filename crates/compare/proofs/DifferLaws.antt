@@ -1,14 +1,12 @@
 -- Laws of the lowest header on which two answers differ: what the search for it finds, and that it finds nothing else.
-use mathlib.Core.Path.{◌≡◌, refl, sym, ap, ◌∙◌, subst}
+use mathlib.Core.Path.{◌≡◌, sym, ap, ◌∙◌}
 use mathlib.Core.Logic.{◌≢◌, ◌↔◌, ◌⊎◌, inl, inr, ⊎_elim}
-use mathlib.Core.List.{List, [], ◌∷◌}
-use mathlib.Core.Bool.{Bool, true, false, not, cond}
-use Prim.Native.Nat.{ℕ, zero, suc, ◌+◌, ◌^◌, ◌≤◌, ◌<◌}
+use mathlib.Core.List.{[], ◌∷◌}
+use mathlib.Core.Bool.{true, false, not}
+use Prim.Native.Nat.{ℕ, ◌^◌, ◌<◌}
 use native.Mathlib.Omega.{arith}
-use lib.Dec.{eqb}
 use borrow.Author.Tests.{eqb-true, eqb-false, eq-eqb, ne_eqb, not-false}
-use Rattle.words.proofs.Tests.{split, not-true}
-use Rattle.compare.specs.Needed.{lowest_from}
+use Rattle.words.proofs.Tests.{not-true}
 use Rattle.compare.specs.Differing.{differ_on, lowest_difference, AlikeEverywhere, LowestDifference}
 use Rattle.compare.proofs.NeededLaws.{one-one, lowest-found, lowest-none, first_or_none, found, none_told, found-told}
 

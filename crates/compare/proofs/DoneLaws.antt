@@ -7,14 +7,12 @@ use lib.ListN.{length}
 use Rattle.words.specs.Slices.{halves_of}
 use Rattle.rules.specs.Rule.{Rule}
 use Rattle.rules.specs.declared.Refusal.{Refusal}
-use Rattle.rules.specs.declared.Verdict.{Verdict}
+use Rattle.std.specs.Prelude.{Option, None, Result, Ok, Err, IsErrAnd}
 use Rattle.rules.specs.Rules.{first, answer}
 use Rattle.rules.specs.Slices.{rules_of}
-use Rattle.rules.specs.Replies.{Reply, passed, refusal_reply, verdict_reply}
-use Rattle.compare_check.specs.declared.Default.{Default}
+use Rattle.rules.specs.Replies.{Reply, passed, refusal_reply}
 use Rattle.compare_check.specs.Outcomes.{miss_number, outcome}
 use Rattle.compare_check.proofs.OrderLaws.{check-without}
-use Rattle.compare.specs.declared.Ending.{Ending}
 use Rattle.compare.specs.declared.Compared.{Compared}
 use Rattle.compare.specs.Runs.{Run, differences}
 use Rattle.compare.specs.Calls.{halved, PortionDone, OutcomesCompared, Comparison}
@@ -24,7 +22,7 @@ unfolding halves_of
 nothing-halved number was = refl
 
 pub done_refused : (check : Reply) (x : Refusal) (rs : List Run) (first last old new : List ℕ) → check ≡ refusal_reply x
-    → PortionDone check rs first last old new first last old new (record { count = 0; ending = Ending.Refused x })
+    → PortionDone check rs first last old new first last old new (Err x)
 done_refused check x rs first last old new e =
     rw e (record {
       reply = refl;
@@ -35,28 +33,28 @@ done_refused check x rs first last old new e =
       news = refl;
     })
 
-done-passed : (check : Reply) (rs : List Run) (first last old new first' last' old' new' : List ℕ) (r : Compared) → check ≡ passed
+done-passed : (check : Reply) (rs : List Run) (first last old new first' last' old' new' : List ℕ) (r : Result Compared Refusal) → check ≡ passed
     → PortionDone passed rs first last old new first' last' old' new' r → PortionDone check rs first last old new first' last' old' new' r
 done-passed check rs first last old new first' last' old' new' r e o = rw e o
 
--- the same by the verdict that the code has in hand: it is a refusal, or the runs were put
-module _ (check : Reply) (v : Verdict) (p : verdict_reply v ≡ check) where
-  pub stopped : {x : Refusal} (rs : List Run) (first last old new : List ℕ) → v ≡ Verdict.Refused x
-      → PortionDone check rs first last old new first last old new (record { count = 0; ending = Ending.Refused x })
-  stopped {x} rs first last old new e = done_refused check x rs first last old new (sym p ∙ ap verdict_reply e)
+-- a call that passes a refusal of its checks up writes nothing
+pub stopped : (check : Reply) (x : Refusal) (rs : List Run) (first last old new : List ℕ) (r : Result Compared Refusal) → IsErrAnd r (λ y. y ≡ x) → refusal_reply x ≡ check
+    → PortionDone check rs first last old new first last old new r
+stopped check x rs first last old new (Ok c) e p = absurd e
+stopped check x rs first last old new (Err y) e p = done_refused check y rs first last old new (sym p ∙ ap refusal_reply (sym e))
 
-  -- (with the number that a miss counts as on each side)
-  pub went_on : v ≡ Verdict.Fine → (w start : ℕ) (olds news : List Rule) (old_default new_default : Default) (m n : ℕ)
-      → m ≡ miss_number old_default → n ≡ miss_number new_default → (begin last old new begin' last' old' new' : List ℕ) (r : Compared)
-      → PortionDone passed (differences w (λ h. first olds h m) (λ h. first news h n) start) begin last old new begin' last' old' new' r
-      → PortionDone check (differences w (outcome old_default olds) (outcome new_default news) start) begin last old new begin' last' old' new' r
-  went_on e w start olds news old_default new_default m n y z begin last old new begin' last' old' new' r o =
-      done-passed check _ begin last old new begin' last' old' new' r (sym p ∙ ap verdict_reply e) (rw (y, z) at o)
+-- and one that passes them puts the runs (with the number that a miss counts as on each side)
+pub went_on : (check : Reply) → check ≡ passed → (w start : ℕ) (olds news : List Rule) (old_default new_default : Option ℕ) (m n : ℕ)
+    → m ≡ miss_number old_default → n ≡ miss_number new_default → (begin last old new begin' last' old' new' : List ℕ) (r : Result Compared Refusal)
+    → PortionDone passed (differences w (λ h. first olds h m) (λ h. first news h n) start) begin last old new begin' last' old' new' r
+    → PortionDone check (differences w (outcome old_default olds) (outcome new_default news) start) begin last old new begin' last' old' new' r
+went_on check e w start olds news old_default new_default m n y z begin last old new begin' last' old' new' r o =
+    done-passed check _ begin last old new begin' last' old' new' r e (rw (y, z) at o)
 
 -- Comparing two lists is comparing their outcomes with no default on both sides.
-pub compare-without : (w : ℕ) (oc ov od nc nv nd : List ℕ) (start : ℕ) (first last old new first' last' old' new' : List ℕ) (r : Compared)
+pub compare-without : (w : ℕ) (oc ov od nc nv nd : List ℕ) (start : ℕ) (first last old new first' last' old' new' : List ℕ) (r : Result Compared Refusal)
     → Comparison w oc ov od nc nv nd start first last old new first' last' old' new' r
-    ↔ OutcomesCompared w oc ov od Default.Absent nc nv nd Default.Absent start first last old new first' last' old' new' r
+    ↔ OutcomesCompared w oc ov od None nc nv nd None start first last old new first' last' old' new' r
 compare-without w oc ov od nc nv nd start first last old new first' last' old' new' r =
     let e = check-without w oc ov od nc nv nd start (length first) (length last) (length old) (length new) in
     (subst Done e, subst⁻¹ Done e)

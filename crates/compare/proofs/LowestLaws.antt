@@ -14,8 +14,8 @@ use Rattle.words.specs.Halves.{num, limit}
 use Rattle.words.specs.declared.Word.{Word}
 use Rattle.words.proofs.Tests.{eqb_yes, no_eqb}
 use Rattle.words.proofs.BitLaws.{and_assoc, and_pow, and-sub, bit-and, bit-without, bit<2, zero-or-one, power-other, same_bits}
-use Rattle.compare.specs.declared.engine.Found.{Found}
-use Rattle.compare.specs.declared.engine.Found.TheVariants.{At, Nothing}
+use Rattle.std.specs.Prelude.{Option, Some, None, IfSome}
+use Rattle.std.specs.Option.{unwrap_or}
 use Rattle.compare.specs.EngineCubes.{Alike, Decided}
 use Rattle.compare.specs.Search.{Lowered}
 use Rattle.compare.proofs.EngineBits.{and-or}
@@ -130,12 +130,12 @@ module _ (f g : ℕ → ℕ) (c v k h : ℕ) (L : Lowered f g c v (k + 1) h) whe
     of_part : (x : ℕ) → bit_and x pc ≡ pv → bit_and x (bit_or c m) ≡ bit_and y (bit_or c m)
     of_part x e = ap (bit_and x) (sym ec) ∙ e ∙ ev ∙ ap (bit_and y) ec
 
-    none_below : Decided f g pc pv Nothing → (x : ℕ) → x < h → bit_and x c ≡ v → (f x ≡ g x → ⊥) → x / 2 ^ k ≡ y / 2 ^ k → ⊥
+    none_below : Decided f g pc pv None → (x : ℕ) → x < h → bit_and x c ≡ v → (f x ≡ g x → ⊥) → x / 2 ^ k ≡ y / 2 ^ k → ⊥
     unfolding Decided Alike
     none_below D x l i d q = let s : x < limit = omega (arith, L.fits) in d (D x s (part_in x s i q))
 
     -- there is no difference among them
-    lowered-nothing : Decided f g pc pv Nothing → Lowered f g c v k h
+    lowered-nothing : Decided f g pc pv None → Lowered f g c v k h
     lowered-nothing D = record {
       inside = L.inside;
       fits = L.fits;
@@ -148,7 +148,7 @@ module _ (f g : ℕ → ℕ) (c v k h : ℕ) (L : Lowered f g c v (k + 1) h) whe
         go x l i d (no n) = let e = above_same x l i d in let u = y-upper in let t : x / 2 ^ k ≡ h / 2 ^ k = omega arith in t
 
     -- one of them is a difference
-    lowered-at : (z : Word) → num z < limit → Decided f g pc pv (At z) → Lowered f g c v k (num z)
+    lowered-at : (z : Word) → num z < limit → Decided f g pc pv (Some z) → Lowered f g c v k (num z)
     unfolding Decided
     lowered-at z l D =
         let q : num z / 2 ^ k ≡ y / 2 ^ k = same-upper c k m few is (num z) y l y-fits (of_part (num z) D.0) in
@@ -163,12 +163,10 @@ module _ (f g : ℕ → ℕ) (c v k h : ℕ) (L : Lowered f g c v (k + 1) h) whe
         less (yes s) q = s
         less (no n) q = absurd (let t : ⊥ = omega (arith, q, y-upper, shr_mono {a = h} {b = num z} k (omega arith)) in t)
 
-    -- what the engine answered
-    pub lowered_none : (r : Found) → Decided f g pc pv r → r ≡ Nothing → Lowered f g c v k h
-    lowered_none r D e = lowered-nothing (rw e at D)
-
-    pub lowered-found : (r : Found) → Decided f g pc pv r → (z z' : Word) → r ≡ At z → z' ≡ z → num z < limit → Lowered f g c v k (num z')
-    lowered-found r D z z' e q l = rw q (lowered-at z l (rw e at D))
+    -- what the engine answers, else h
+    pub lowered-or : (x : Word) → num x ≡ h → (r : Option Word) → Decided f g pc pv r → IfSome r (λ z. num z < limit) → Lowered f g c v k (num (unwrap_or r x))
+    lowered-or x e (Some z) D l = lowered-at z l D
+    lowered-or x e None D l = rw e (lowered-nothing D)
 
 -- ---- before the first place, and after the last
 
@@ -199,7 +197,3 @@ zero-there h k p a ep ea t =
 pub one-there : (h k p a : ℕ) → p ≡ 2 ^ k → a ≡ bit_and h p → eqb a 0 ≡ false → bit h k ≡ 1
 one-there h k p a ep ea t =
     ⊎_elim (λ z. absurd (no_eqb a 0 t (ea ∙ ap (bit_and h) ep ∙ and_pow h k ∙ ap (λ (x : ℕ). x * 2 ^ k) z ∙ omega arith))) (λ o. o) (zero-or-one (bit h k) (bit<2 h k))
-
--- a place by another number
-pub lowered-next : (f g : ℕ → ℕ) (c v j k h : ℕ) → j ≡ k → Lowered f g c v j h → Lowered f g c v k h
-lowered-next f g c v j k h e L = subst (λ (x : ℕ). Lowered f g c v x h) e L

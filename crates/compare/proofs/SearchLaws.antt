@@ -23,20 +23,16 @@ use Rattle.rules.specs.Lists.{except}
 use Rattle.rules.specs.Slices.{rules_of, rule_at, blank}
 use Rattle.rules.specs.Checks.{Sound}
 use Rattle.rules.specs.Calls.{check_list}
-use Rattle.rules.specs.Replies.{Gives, verdict_reply}
-use Rattle.rules.specs.declared.Refusal.{Refusal}
-use Rattle.rules.specs.declared.Verdict.{Verdict}
+use Rattle.rules.specs.Replies.{Gives}
 use Rattle.rules.proofs.EntryLaws.{all-place}
 use Rattle.rules.proofs.SliceLaws.{rule-inside, rules-length}
-use Rattle.rules.proofs.ReplyLaws.{refused-stop, fine-next, verdict-passed}
+use Rattle.rules.proofs.ReplyLaws.{then_next}
 use Rattle.rules.proofs.CheckLaws.{sound-narrow, list-sound}
-use Rattle.compare.specs.declared.engine.Found.{Found}
-use Rattle.compare.specs.declared.engine.Found.TheVariants.{At, Nothing}
+use Rattle.std.specs.Prelude.{Some, None}
 use Rattle.compare.specs.EngineSets.{answer_of, Narrowed}
 use Rattle.compare.specs.EngineCubes.{Alike, Decided}
-use Rattle.compare.specs.Search.{Lowered, AllBut, found_list}
-use Rattle.compare.specs.Needed.{lowest_change, needed_reply, needed_at}
-use Rattle.compare.specs.declared.Needed.{Needed}
+use Rattle.compare.specs.Search.{Lowered, AllBut}
+use Rattle.compare.specs.Needed.{lowest_change, needed_at}
 use Rattle.compare.proofs.EngineBits.{and-or}
 use Rattle.compare.proofs.EngineBlocks.{base, below_next, upper}
 use Rattle.compare.proofs.EngineWhole.{all, sound-ready, whole}
@@ -62,9 +58,6 @@ module _ (w : ℕ) (cs vs ds : List ℕ) (i : ℕ) (S : Sound w cs vs ds) (insid
 
   pub in-values : i < length (words_of vs)
   in-values = omega (arith, words-length vs, S.lent.values, S.lent.decisions)
-
-  pub in-few : i < 1024
-  in-few = omega (arith, S.few)
 
   the-rule : rule_at rs i ≡ record { care = c; value = v; decision = get_or ds i 0 }
   the-rule =
@@ -132,20 +125,14 @@ module _ (w : ℕ) (cs vs ds : List ℕ) (i : ℕ) (S : Sound w cs vs ds) (insid
           (λ t. unmatched-same rs i h t)
 
       -- no difference on the cube
-      nothing : Decided f g care value Nothing → [] ≡ lowest_change w rs i
+      pub search-none : Decided f g care value None → [] ≡ lowest_change w rs i
       unfolding Decided Alike
-      nothing D = sym ((nothing-exactly w rs i).1 (λ h l. same-below h l (λ q. D h (omega (arith, wide)) q)))
-
-      pub search-none : (r : Found) → Decided f g care value r → r ≡ Nothing → [] ≡ lowest_change w rs i
-      search-none r D e = nothing (rw e at D)
+      search-none D = sym ((nothing-exactly w rs i).1 (λ h l. same-below h l (λ q. D h (omega (arith, wide)) q)))
 
       -- a difference on the cube to start from
-      start-at : (h : Word) → num h < limit → Decided f g care value (At h) → Lowered f g care value w (num h)
+      pub search-start : (h : Word) → num h < limit → Decided f g care value (Some h) → Lowered f g care value w (num h)
       unfolding Decided
-      start-at h l D = lowered-start f g care value w (num h) D.0 l (start-below (num h) l D.0) D.1
-
-      pub search-start : (r : Found) → Decided f g care value r → (h h' : Word) → r ≡ At h → h' ≡ h → num h < limit → Lowered f g care value w (num h')
-      search-start r D h h' e q l = rw q (start-at h l (rw e at D))
+      search-start h l D = lowered-start f g care value w (num h) D.0 l (start-below (num h) l D.0) D.1
 
       -- and the lowest one
       pub search-end : (h : Word) → Lowered f g care value 0 (num h) → num h ∷ [] ≡ lowest_change w rs i
@@ -162,32 +149,27 @@ module _ (w : ℕ) (cs vs ds : List ℕ) (i : ℕ) (S : Sound w cs vs ds) (insid
 
 -- ---- the call
 
-module _ (w : ℕ) (cs vs ds : List ℕ) (k : ℕ) (v : Verdict) (checked : verdict_reply v ≡ check_list w 1 cs vs ds) where
-  -- the list's refusal
-  pub needed-refused : (x : Refusal) → v ≡ Verdict.Refused x → needed_reply (Needed.Refused x) ≡ needed_at w cs vs ds k
+module _ (w : ℕ) (cs vs ds : List ℕ) (k : ℕ) (fine : Gives [] ≡ check_list w 1 cs vs ds) where
+  given : needed_at w cs vs ds k ≡ Gives (halves_of (lowest_change w (rules_of cs vs ds) k))
   unfolding needed_at
-  needed-refused x e = sym (refused-stop v _ _ checked e)
+  given = then_next _ _ (sym fine)
 
-  module _ (fine : v ≡ Verdict.Fine) where
-    given : needed_at w cs vs ds k ≡ Gives (halves_of (lowest_change w (rules_of cs vs ds) k))
-    unfolding needed_at
-    given = fine-next v _ _ checked fine
+  pub needed-sound : Sound w cs vs ds
+  needed-sound = list-sound w 1 cs vs ds (sym fine)
 
-    pub needed-sound : Sound w cs vs ds
-    needed-sound = list-sound w 1 cs vs ds (verdict-passed v _ checked fine)
+  -- no header
+  pub needed-none : [] ≡ lowest_change w (rules_of cs vs ds) k → Gives [] ≡ needed_at w cs vs ds k
+  needed-none e = sym (given-none _ (sym e)) ∙ sym given
 
-    none_is : [] ≡ lowest_change w (rules_of cs vs ds) k → Gives [] ≡ needed_at w cs vs ds k
-    none_is e = sym (given-none _ (sym e)) ∙ sym given
+  -- no such position
+  pub needed-past : length ds ≤ k → Gives [] ≡ needed_at w cs vs ds k
+  needed-past l =
+      needed-none (sym (past-nothing w (rules_of cs vs ds) k (omega (arith, rules-length cs vs ds needed-sound.lent))))
 
-    -- no such position
-    pub needed-past : length ds ≤ k → needed_reply Needed.Nowhere ≡ needed_at w cs vs ds k
-    needed-past l =
-        none_is (sym (past-nothing w (rules_of cs vs ds) k (omega (arith, rules-length cs vs ds needed-sound.lent))))
-
-    module _ (r : Found) (told : found_list r ≡ lowest_change w (rules_of cs vs ds) k) where
-      pub needed-none : r ≡ Nothing → needed_reply Needed.Nowhere ≡ needed_at w cs vs ds k
-      needed-none e = none_is (sym (ap found_list e) ∙ told)
-
-      pub needed-found : (h h' : Word) → r ≡ At h → h' ≡ h → h.low < 2 ^ 64 → Gives (h'.low ∷ h'.high ∷ []) ≡ needed_at w cs vs ds k
-      needed-found h h' e q l =
-          rw q (ap (λ (x : Word). Gives (x.low ∷ x.high ∷ [])) (sym (halves-num h l)) ∙ sym (given-one (num h ∷ []) (num h) refl) ∙ ap (λ (x : List ℕ). Gives (halves_of x)) (sym (ap found_list e) ∙ told) ∙ sym given)
+  -- a header
+  pub needed-found : (h : Word) → h.low < 2 ^ 64 → num h ∷ [] ≡ lowest_change w (rules_of cs vs ds) k → Gives (h.low ∷ h.high ∷ []) ≡ needed_at w cs vs ds k
+  needed-found h l e =
+      ap (λ (x : Word). Gives (x.low ∷ x.high ∷ [])) (sym (halves-num h l))
+      ∙ sym (given-one (num h ∷ []) (num h) refl)
+      ∙ ap (λ (x : List ℕ). Gives (halves_of x)) e
+      ∙ sym given

@@ -1,13 +1,16 @@
 -- Where a list needs a rule: the lowest header whose answer changes when the rule is taken away (request 12).
-use Rattle.std.specs.Prelude.{ℕ, zero, suc, ◌^◌, ◌<◌, ◌≡◌, ◌≢◌, List, [], ◌∷◌, Bool, not, cond, eqb}
+use Rattle.std.specs.Prelude.{ℕ, zero, suc, ◌^◌, ◌<◌, ◌≡◌, ◌≢◌, List, [], ◌∷◌, Bool, not, cond, eqb, Option, Result}
 use Rattle.words.specs.Slices.{halves_of}
 use Rattle.rules.specs.Rule.{Rule}
 use Rattle.rules.specs.Rules.{answer}
 use Rattle.rules.specs.Lists.{except}
 use Rattle.rules.specs.Slices.{rules_of}
-use Rattle.rules.specs.Replies.{Reply, Gives, ◌then◌, refusal_reply}
+use Rattle.rules.specs.declared.Refusal.{Refusal}
+use Rattle.rules.specs.declared.RuleList.{RuleList}
+use Rattle.rules.specs.declared.Wire.{Wire}
+use Rattle.rules.specs.Replies.{Reply, Gives, ◌then◌, reply}
 use Rattle.rules.specs.Calls.{check_list}
-use Rattle.compare.specs.declared.Needed.{Needed}
+use Rattle.compare.specs.Calls.{header_values}
 
 -- Whether a header gets another answer when the rule at position k, counted from 0, is taken from the list.
 unfoldable pub changes : List Rule → (k h : ℕ) → Bool
@@ -36,12 +39,14 @@ pub record LowestChange (w : ℕ) (rs : List Rule) (k h : ℕ) : Type 0 where
 
 -- ---- the call
 
--- A header is two values, its halves, the low one first; where the rule does nothing there is none.
-abbrev pub needed_reply : Needed → Reply
-needed_reply (Needed.At h) = Gives (h.0.low ∷ h.0.high ∷ [])
-needed_reply Needed.Nowhere = Gives []
-needed_reply (Needed.Refused x) = refusal_reply x
+-- A header is two values; where the rule does nothing there is none.
+abbrev pub needed_reply : Result (Option Wire) Refusal → Reply
+needed_reply r = reply header_values r
 
 -- What the call replies: the list's checks, then the lowest header.
 unfoldable pub needed_at : ℕ → (cares values decisions : List ℕ) → (k : ℕ) → Reply
 needed_at w cs vs ds k = check_list w 1 cs vs ds then Gives (halves_of (lowest_change w (rules_of cs vs ds) k))
+
+-- The same of a list as it is lent.
+abbrev pub needed_in : ℕ → RuleList → (k : ℕ) → Reply
+needed_in w x k = needed_at w x.care.now x.value.now x.decision.now k

@@ -2,19 +2,19 @@
 use mathlib.Core.Path.{◌≡◌, sym, ◌∙◌}
 use mathlib.Core.List.{List}
 use Prim.Native.Nat.{ℕ}
-use Rattle.rules.specs.declared.Verdict.{Verdict}
+use Rattle.rules.specs.declared.Refusal.{Refusal}
 use Rattle.rules.specs.Replies.{verdict_reply}
 use Rattle.rules.proofs.ReplyLaws.{one-verdict}
-use Rattle.compare_check.specs.declared.Default.{Default}
+use Rattle.std.specs.Prelude.{Option, Result}
 use Rattle.compare_check.specs.Outcomes.{miss_number}
 use Rattle.compare_check.specs.Checks.{outcomes_check}
 
 -- `miss_number`
-pub miss-number-once : (default : Default) (m n : ℕ) → m ≡ miss_number default → n ≡ miss_number default → m ≡ n
+pub miss-number-once : (default : Option ℕ) (m n : ℕ) → m ≡ miss_number default → n ≡ miss_number default → m ≡ n
 miss-number-once default m n p q = p ∙ sym q
 
 -- `check_comparison`
-pub check-comparison-once : (w : ℕ) (oc ov od : List ℕ) (old : Default) (nc nv nd : List ℕ) (new : Default) (start a b c d : ℕ) (u v : Verdict)
+pub check-comparison-once : (w : ℕ) (oc ov od : List ℕ) (old : Option ℕ) (nc nv nd : List ℕ) (new : Option ℕ) (start a b c d : ℕ) (u v : Result (Unit {0}) Refusal)
     → verdict_reply u ≡ outcomes_check w oc ov od old nc nv nd new start a b c d
     → verdict_reply v ≡ outcomes_check w oc ov od old nc nv nd new start a b c d
     → u ≡ v

@@ -1,9 +1,9 @@
 -- The checks of a comparison in their order, with number and place (01, Refusal numbers; the defaults by request 04).
-use Rattle.std.specs.Prelude.{ℕ, ◌*◌, List, ◌&&◌, ltb, eqb}
+use Rattle.std.specs.Prelude.{ℕ, ◌*◌, List, ◌&&◌, ltb, eqb, Option, Some, None}
+use Rattle.rules.specs.declared.RuleList.{RuleList}
 use Rattle.rules.specs.Rules.{no_match}
 use Rattle.rules.specs.Replies.{Reply, passed, need, ◌then◌}
 use Rattle.rules.specs.Checks.{width_check, list_check, header_check, room_check}
-use Rattle.compare_check.specs.declared.Default.{Default}
 
 -- Refusal 2 of the results: the two slices of headers differ in length, or are not twice as long as those of the answers.
 unfoldable pub results_check : (firsts lasts olds news : ℕ) → Reply
@@ -20,12 +20,12 @@ compare_check w oc ov od nc nv nd start a b c d =
     width_check w then list_check w 1 oc ov od then list_check w 2 nc nv nd then portion_check w start a b c d
 
 -- Refusal 5 of a default: 65,535 is no decision. The place is the side and no rule.
-unfoldable pub default_check : (side : ℕ) → Default → Reply
-default_check side Default.Absent = passed
-default_check side (Default.Decision d) = need (ltb d no_match) 5 side 0
+unfoldable pub default_check : (side : ℕ) → Option ℕ → Reply
+default_check side None = passed
+default_check side (Some d) = need (ltb d no_match) 5 side 0
 
 -- The checks where each side has a default or none: as above, with the old side's default and then the new side's after both lists.
-unfoldable pub outcomes_check : (w : ℕ) → (oc ov od : List ℕ) → (old : Default) → (nc nv nd : List ℕ) → (new : Default)
+unfoldable pub outcomes_check : (w : ℕ) → (oc ov od : List ℕ) → (old : Option ℕ) → (nc nv nd : List ℕ) → (new : Option ℕ)
     → (start : ℕ) → (firsts lasts olds news : ℕ) → Reply
 outcomes_check w oc ov od old nc nv nd new start a b c d =
     width_check w
@@ -34,3 +34,9 @@ outcomes_check w oc ov od old nc nv nd new start a b c d =
     then default_check 1 old
     then default_check 2 new
     then portion_check w start a b c d
+
+-- The same of two lists as they are lent.
+abbrev pub outcomes_in : (w : ℕ) → (old : RuleList) → (old_default : Option ℕ) → (new : RuleList) → (new_default : Option ℕ)
+    → (start : ℕ) → (firsts lasts olds news : ℕ) → Reply
+outcomes_in w old od new nd start a b c d =
+    outcomes_check w old.care.now old.value.now old.decision.now od new.care.now new.value.now new.decision.now nd start a b c d

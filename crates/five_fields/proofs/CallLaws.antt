@@ -1,20 +1,18 @@
 -- Laws of the calls: what a count says, and from what the inner functions leave to what is promised.
-use mathlib.Core.Path.{◌≡◌, refl, sym, ap, ◌∙◌}
+use mathlib.Core.Path.{◌≡◌, sym, ap, ◌∙◌}
 use mathlib.Core.Logic.{◌↔◌}
 use mathlib.Core.List.{List, [], ◌∷◌}
 use Prim.Native.Nat.{ℕ, ◌≤◌}
 use lib.Dec.{leb}
 use lib.ListN.{length}
 use borrow.Author.Tests.{leb-true, le-leb}
-use Rattle.rules.specs.declared.Refusal.{Refusal}
-use Rattle.rules.specs.declared.Verdict.{Verdict}
-use Rattle.rules.specs.Replies.{Reply, Gives, Refuses, passed, ◌then◌, refusal_reply, verdict_reply}
+use Rattle.std.specs.Prelude.{Ok}
+use Rattle.rules.specs.Replies.{Gives, passed, ◌then◌}
 use Rattle.rules.specs.Checks.{size_check, lengths_check, room_check}
-use Rattle.rules.proofs.ReplyLaws.{then_next, then-stop, then-second, one_value, gives-refuses, bare-first, Bare, bare-then, bare-need, need-yes, need-passed, same-refused, same-given}
-use Rattle.five_fields.specs.declared.Expanded.{Expanded}
+use Rattle.rules.proofs.ReplyLaws.{then_next, then-second, one_value, bare-first, Bare, bare-then, bare-need, need-yes, need-passed, same-given}
 use Rattle.five_fields.specs.Slices.{Slices, rules_in}
 use Rattle.five_fields.specs.Expansion.{expanded}
-use Rattle.five_fields.specs.Calls.{expanded_reply, rules_check, source_check, count_reply, expand_check, expand_reply, ExpandDone}
+use Rattle.five_fields.specs.Calls.{rules_check, source_check, count_reply, expand_check, expand_reply, ExpandDone}
 use Rattle.five_fields.proofs.CheckLaws.{Sound, rules-sound, sound-rules, bare-slices}
 use Rattle.five_fields.proofs.PutLaws.{Laid}
 
@@ -49,54 +47,26 @@ module _ (s : Slices) where
   counted n e = (bare-first (source_check s) _ bare-source (n ∷ []) (sym e), sym (one_value (then-second (source_check s) _ (n ∷ []) (sym e))))
 
   -- the rules are good, and there are so many entries
-  pub counted_ready : (n : ℕ) (a : Expanded) → expanded_reply a ≡ count_reply s → a ≡ Expanded.Entries n → (rules_check s ≡ passed) × (n ≡ entry_count)
-  counted_ready n a e f = let c = counted n (sym (ap expanded_reply f) ∙ e) in ((source-rules c.0).0, c.1)
-
-  -- and where it is refused, that is the refusal of the rules
-  pub not-counted : (x : Refusal) → refusal_reply x ≡ count_reply s → source_check s ≡ refusal_reply x
-  unfolding count_reply
-  not-counted x e = go (source_check s) e
-    where
-      go : (a : Reply) → refusal_reply x ≡ (a then Gives (entry_count ∷ [])) → a ≡ refusal_reply x
-      go (Gives ns) f = absurd (gives-refuses (sym f))
-      go (Refuses n l r) f = sym f
+  pub counted_ready : (n : ℕ) → Gives (n ∷ []) ≡ count_reply s → (rules_check s ≡ passed) × (n ≡ entry_count)
+  counted_ready n e = let c = counted n e in ((source-rules c.0).0, c.1)
 
 -- ---- the call that writes
 
 module _ (s : Slices) (cs vs ds : List ℕ) where
-  -- a refused call changes nothing
-  refused_as : (r : Expanded) (x : Refusal) → expanded_reply r ≡ refusal_reply x → expand_check s cs vs ds ≡ refusal_reply x → ExpandDone s cs vs ds cs vs ds r
-  unfolding expand_reply
-  refused_as r x e f =
-      let all = then-stop _ (Gives (entry_count s ∷ [])) x f in
-      record { reply = e ∙ sym all; cares = same-refused _ x _ cs all; values = same-refused _ x _ vs all; decisions = same-refused _ x _ ds all }
-
-  -- the refusal of the rules
-  pub expand-refused : (r : Expanded) {x : Refusal} → expanded_reply r ≡ count_reply s → r ≡ Expanded.Refused x → ExpandDone s cs vs ds cs vs ds r
-  unfolding expand_check
-  expand-refused r {x} e f = refused_as r x (ap expanded_reply f) (then-stop _ _ x (not-counted s x (sym (ap expanded_reply f) ∙ e)))
-
-  module _ (n : ℕ) (a : Expanded) (asked : expanded_reply a ≡ count_reply s) (said : a ≡ Expanded.Entries n) where
+  module _ (n : ℕ) (asked : Gives (n ∷ []) ≡ count_reply s) where
     count : (source_check s ≡ passed) × (n ≡ entry_count s)
-    count = counted s n (sym (ap expanded_reply said) ∙ asked)
+    count = counted s n asked
 
-    rest : {b : Reply} → (lengths_check cs vs ds then room_check (entry_count s) (length ds)) ≡ b → expand_check s cs vs ds ≡ b
+    rest : expand_check s cs vs ds ≡ (lengths_check cs vs ds then room_check n (length ds))
     unfolding expand_check
-    rest e = then_next _ _ count.0 ∙ e
-
-    -- the refusals of the result slices
-    pub expand-results : (v : Verdict) {x : Refusal} → verdict_reply v ≡ (lengths_check cs vs ds then room_check n (length ds)) → v ≡ Verdict.Refused x
-        → ExpandDone s cs vs ds cs vs ds (Expanded.Refused x)
-    expand-results v {x} e f =
-        refused_as (Expanded.Refused x) x refl (rest (ap (λ (k : ℕ). lengths_check cs vs ds then room_check k (length ds)) (sym count.1) ∙ sym e ∙ ap verdict_reply f))
+    rest = then_next _ _ count.0 ∙ ap (λ (k : ℕ). lengths_check cs vs ds then room_check k (length ds)) (sym count.1)
 
     -- the entries
     pub expand-given : (cs' vs' ds' : List ℕ) → (lengths_check cs vs ds then room_check n (length ds)) ≡ passed → Laid (expanded (rules_in s)) cs vs ds cs' vs' ds'
-        → ExpandDone s cs vs ds cs' vs' ds' (Expanded.Entries n)
+        → ExpandDone s cs vs ds cs' vs' ds' (Ok n)
     unfolding expand_reply
     expand-given cs' vs' ds' e l =
-        let fine : expand_check s cs vs ds ≡ passed = rest (ap (λ (k : ℕ). lengths_check cs vs ds then room_check k (length ds)) (sym count.1) ∙ e) in
-        let all = then_next _ (Gives (entry_count s ∷ [])) fine in
+        let all = then_next _ (Gives (entry_count s ∷ [])) (rest ∙ e) in
         record {
           reply = ap (λ (k : ℕ). Gives (k ∷ [])) count.1 ∙ sym all;
           cares = l.cares ∙ same-given _ _ _ cs all;

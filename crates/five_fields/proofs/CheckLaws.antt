@@ -1,20 +1,21 @@
 -- Laws of the checks of five-field rules: each refusal in turn, and what a list that passed is.
 use mathlib.Core.Path.{◌≡◌, refl, sym, ap, ◌∙◌}
 use mathlib.Core.Logic.{◌↔◌, ◌≢◌}
-use mathlib.Core.List.{List, [], ◌∷◌, ◌++◌}
-use mathlib.Core.Bool.{Bool, true, false, ◌&&◌, and_assoc}
-use Prim.Native.Nat.{ℕ, ◌+◌, ◌-◌, ◌%◌, ◌^◌, ◌≤◌, ◌<◌}
+use mathlib.Core.List.{List, [], ◌∷◌}
+use mathlib.Core.Bool.{Bool, true, false, ◌&&◌}
+use Prim.Native.Nat.{ℕ, ◌+◌, ◌-◌, ◌^◌, ◌≤◌, ◌<◌}
 use native.Mathlib.Omega.{arith}
 use lib.Dec.{eqb, leb, ltb}
-use borrow.Author.Tests.{leb-true, ltb-true, le-leb, lt-ltb, lt-leb}
-use Rattle.words.proofs.Tests.{and-true, true-and, and-on, and-off, eqb_yes, yes_eqb, no_eqb, split as by}
+use borrow.Author.Tests.{leb-true, ltb-true, le-leb, lt-ltb}
+use Rattle.words.proofs.Tests.{and-true, true-and, eqb_yes, yes_eqb, no_eqb, split as by}
 use Rattle.rules.specs.declared.Refusal.{Refusal}
-use Rattle.rules.specs.declared.Verdict.{Verdict}
 use Rattle.rules.specs.Rules.{no_match}
 use Rattle.rules.specs.Lists.{All}
-use Rattle.rules.specs.Replies.{Reply, Refuses, passed, need, ◌then◌, verdict_reply}
+use Rattle.std.specs.Prelude.{Result, IsErrAnd}
+use Rattle.std.specs.List.{list_all}
+use Rattle.rules.specs.Replies.{Reply, passed, need, ◌then◌, refusal_reply, verdict_reply}
 use Rattle.rules.specs.Checks.{size_check}
-use Rattle.rules.proofs.ReplyLaws.{then_next, then-refuses, then-assoc, then-second, need-yes, need-no, need-passed, need-then, fine-next, verdict-stop, Bare, bare-first, bare-need, bare-then}
+use Rattle.rules.proofs.ReplyLaws.{then_next, then-second, need-yes, need-passed, need-then, stop-up, Bare, bare-first, bare-need, bare-then}
 use Rattle.ranges.specs.Prefixes.{prefix, PrefixIn}
 use Rattle.ranges.specs.Calls.{is_range}
 use Rattle.five_fields.specs.FiveFieldRule.{FiveFieldRule}
@@ -61,16 +62,6 @@ good-address : (a k : ℕ) → k ≤ address_bits → PrefixIn address_bits (add
 unfolding is_prefix
 good-address a k h p = true-and (le-leb _ _ h) (true-and (lt-ltb _ _ p.within) (yes_eqb _ _ p.clear))
 
--- the code's test of a prefix: its length first
-pub prefix-long : (a k : ℕ) → address_bits < k → false ≡ is_prefix a k
-unfolding is_prefix
-prefix-long a k h = and-off _ (lt-leb k address_bits h)
-
-pub prefix-short : (a k p : ℕ) → k ≤ address_bits → a < 2 ^ address_bits → p ≡ 2 ^ (address_bits - k) → eqb (a % p) 0 ≡ is_prefix a k
-unfolding is_prefix
-prefix-short a k p h l e =
-    ap (λ (x : ℕ). eqb (a % x) 0) e ∙ and-on (lt-ltb a (2 ^ address_bits) l) ∙ and-on (le-leb k address_bits h)
-
 -- any protocol is a prefix of its field, and so is one that is not any
 pub any-prefix : PrefixIn protocol_bits (prefix protocol_bits 0)
 any-prefix = record { fits = omega arith; within = omega arith; clear = refl }
@@ -85,31 +76,11 @@ pub protocol-prefix : (p : ℕ) → p ≤ any_protocol → PrefixIn protocol_bit
 protocol-prefix p h = by (eqb p any_protocol) (λ e. rw e any-prefix) (λ e. rw e (one-prefix p h e))
 
 module _ (i : ℕ) (r : FiveFieldRule) where
-  pub check-fields : fields_fit r ≡ false → five_field_check i r ≡ Refuses 23 1 i
-  unfolding five_field_check
-  check-fields e = then-refuses _ _ (need-no _ 23 1 i e)
-
-  pub check-ports : fields_fit r ≡ true → ports_fit r ≡ false → five_field_check i r ≡ Refuses 20 1 i
-  unfolding five_field_check
-  check-ports e f = then_next _ _ (need-yes _ 23 1 i e) ∙ then-refuses _ _ (need-no _ 20 1 i f)
-
   pub check-decision : fields_fit r ≡ true → ports_fit r ≡ true → {a : Reply} → need (ltb r.decision no_match) 5 1 i ≡ a → five_field_check i r ≡ a
   unfolding five_field_check
   check-decision e f g = then_next _ _ (need-yes _ 23 1 i e) ∙ then_next _ _ (need-yes _ 20 1 i f) ∙ g
 
-  -- one of two ranges of ports is none
-  pub source-no : is_range port_bits r.source_low r.source_high ≡ false → ports_fit r ≡ false
-  unfolding ports_fit
-  source-no e = sym (and-off _ e)
-
-  pub destination-no : is_range port_bits r.source_low r.source_high ≡ true → is_range port_bits r.destination_low r.destination_high ≡ false → ports_fit r ≡ false
-  unfolding ports_fit
-  destination-no e f = sym (sym f ∙ and-on e)
-
-  pub both_yes : is_range port_bits r.source_low r.source_high ≡ true → is_range port_bits r.destination_low r.destination_high ≡ true → ports_fit r ≡ true
-  unfolding ports_fit
-  both_yes e f = true-and e f
-
+  -- both ranges of ports of a rule are such
   pub ports-both : ports_fit r ≡ true → (is_range port_bits r.source_low r.source_high ≡ true) × (is_range port_bits r.destination_low r.destination_high ≡ true)
   unfolding ports_fit
   ports-both e = and-true (is_range port_bits r.source_low r.source_high) _ e
@@ -182,13 +153,13 @@ module _ (s : Slices) (i n : ℕ) where
   unfolding five_fields_check
   left-next h = ap (five_fields_check (i + 1)) (rules-next s i n h)
 
-  pub left-pass : (v : Verdict) → i < n → verdict_reply v ≡ five_field_check (i + 1) (rule_at s i) → v ≡ Verdict.Fine
+  pub left-pass : i < n → passed ≡ five_field_check (i + 1) (rule_at s i)
       → five_fields_check (i + 1) (rules_from s i (n - i)) ≡ five_fields_check (i + 1 + 1) (rules_from s (i + 1) (n - (i + 1)))
-  left-pass v h e f = left-next h ∙ fine-next v _ _ e f
+  left-pass h e = left-next h ∙ then_next _ _ (sym e)
 
-  pub left-stop : (v : Verdict) {x : Refusal} → i < n → verdict_reply v ≡ five_field_check (i + 1) (rule_at s i) → v ≡ Verdict.Refused x
-      → five_fields_check (i + 1) (rules_from s i (n - i)) ≡ verdict_reply v
-  left-stop v h e f = left-next h ∙ verdict-stop v _ _ e f
+  pub left-stop : (r : Result (Unit {0}) Refusal) (x : Refusal) → i < n → IsErrAnd r (λ y. y ≡ x) → refusal_reply x ≡ five_field_check (i + 1) (rule_at s i)
+      → verdict_reply r ≡ five_fields_check (i + 1) (rules_from s i (n - i))
+  left-stop r x h e f = stop-up _ r _ _ x e f ∙ sym (left-next h)
 
   pub left_end : n ≤ i → five_fields_check (i + 1) (rules_from s i (n - i)) ≡ passed
   unfolding five_fields_check
@@ -196,36 +167,12 @@ module _ (s : Slices) (i n : ℕ) where
 
 -- ---- the ten slices
 
-each_append : (n : ℕ) (xs ys : List ℕ) → each n (xs ++ ys) ≡ (each n xs && each n ys)
-each_append n [] ys = refl
-each_append n (x ∷ xs) ys = ap (λ (t : Bool). eqb x n && t) (each_append n xs ys) ∙ sym (and_assoc (eqb x n) (each n xs) (each n ys))
-
--- nine numbers, three by three
-pub each-threes : (n a b c d e f g h i : ℕ) → each n (a ∷ b ∷ c ∷ d ∷ e ∷ f ∷ g ∷ h ∷ i ∷ [])
-    ≡ (each n (a ∷ b ∷ c ∷ []) && (each n (d ∷ e ∷ f ∷ []) && each n (g ∷ h ∷ i ∷ [])))
-each-threes n a b c d e f g h i =
-    each_append n (a ∷ b ∷ c ∷ []) (d ∷ e ∷ f ∷ g ∷ h ∷ i ∷ [])
-    ∙ ap (λ (t : Bool). each n (a ∷ b ∷ c ∷ []) && t) (each_append n (d ∷ e ∷ f ∷ []) (g ∷ h ∷ i ∷ []))
-
--- ten lengths: each check in turn
-module _ (t : Bool) (n : ℕ) where
-  pub lengths-two : t ≡ false → (need t 2 0 0 then size_check 1 n) ≡ Refuses 2 0 0
-  lengths-two e = then-refuses _ _ (need-no t 2 0 0 e)
-
-  pub lengths-three : t ≡ true → 1024 < n → (need t 2 0 0 then size_check 1 n) ≡ Refuses 3 1 0
-  unfolding size_check
-  lengths-three e h = then_next _ _ (need-yes t 2 0 0 e) ∙ need-no _ 3 1 0 (lt-leb _ _ h)
-
-  pub lengths-fine : t ≡ true → n ≤ 1024 → (need t 2 0 0 then size_check 1 n) ≡ passed
-  unfolding size_check
-  lengths-fine e h = then_next _ _ (need-yes t 2 0 0 e) ∙ need-yes _ 3 1 0 (le-leb _ _ h)
+-- std's test of all, which the code makes
+pub each_all : (n : ℕ) (ms : List ℕ) → list_all (λ m. eqb m n) ms ≡ each n ms
+each_all n [] = refl
+each_all n (m ∷ ms) = ap (λ (t : Bool). eqb m n && t) (each_all n ms)
 
 module _ (s : Slices) where
-  -- the lengths, and then the rules
-  pub check-parts : rules_check s ≡ ((need (alike s) 2 0 0 then size_check 1 (rows s)) then five_fields_check 1 (rules_in s))
-  unfolding rules_check
-  check-parts = sym (then-assoc (need (alike s) 2 0 0) (size_check 1 (rows s)) (five_fields_check 1 (rules_in s)))
-
   -- checks give no values
   pub bare-slices : Bare (rules_check s)
   unfolding rules_check
@@ -248,7 +195,9 @@ module _ (s : Slices) where
       }
 
   pub sound-rules : Sound → rules_check s ≡ passed
-  sound-rules t = check-parts ∙ then_next _ _ (lengths-fine (alike s) (rows s) t.lengths t.few) ∙ good-rules 1 (rules_in s) t.good
+  unfolding rules_check size_check
+  sound-rules t =
+      then_next _ _ (need-yes _ 2 0 0 t.lengths) ∙ then_next _ _ (need-yes _ 3 1 0 (le-leb _ _ t.few)) ∙ good-rules 1 (rules_in s) t.good
 
   -- Exactly these pass.
   pub rules-exactly : (rules_check s ≡ passed) ↔ Sound

@@ -4,11 +4,11 @@ use mathlib.Core.List.{List, [], ◌∷◌, ◌++◌, flat_map}
 use Prim.Native.Nat.{ℕ, zero, suc, ◌+◌, ◌*◌, ◌-◌, ◌≤◌, ◌<◌}
 use native.Mathlib.Omega.{arith}
 use native.Mathlib.Nat.{add-mul, mul-le-mul_right}
-use lib.ListN.{length, get_or, length-append, set}
+use lib.ListN.{length, length-append, set}
 use lib.Seq.{sets}
 use Rattle.rules.specs.Lists.{All}
 use Rattle.rules.proofs.EntryLaws.{all_append}
-use Rattle.five_fields.specs.Slices.{Slices, rows, rule_at, rules_from, rules_in}
+use Rattle.five_fields.specs.Slices.{Slices, rule_at, rules_from}
 use Rattle.five_fields.specs.FiveFieldRule.{FiveFieldRule}
 
 module _ {A B : Type 0} (f : A → List B) where
@@ -50,10 +50,6 @@ sets-append l i (x ∷ xs) ys = sets-append (set l i x) (suc i) xs ys ∙ ap (λ
 
 -- ---- the rules of ten slices
 
--- at first all are left
-pub rules-all : (s : Slices) → rules_from s 0 (rows s - 0) ≡ rules_in s
-rules-all s = ap (rules_from s 0) (let e : rows s - 0 ≡ rows s = omega arith in e)
-
 -- the first of the rules that are left, and the others
 pub rules-next : (s : Slices) (i n : ℕ) → i < n → rules_from s i (n - i) ≡ rule_at s i ∷ rules_from s (i + 1) (n - (i + 1))
 unfolding rules_from
@@ -69,14 +65,6 @@ pub rules-count : (s : Slices) (i n : ℕ) → length (rules_from s i n) ≡ n
 unfolding rules_from
 rules-count s i zero = refl
 rules-count s i (suc n) = ap suc (rules-count s (suc i) n)
-
--- the rule that is made of what stands at a position of each slice
-pub rule-read : (s : Slices) (i : ℕ) {a b c d e f g h k m : ℕ} → a ≡ get_or s.sources i 0 → b ≡ get_or s.source_lengths i 0
-    → c ≡ get_or s.destinations i 0 → d ≡ get_or s.destination_lengths i 0 → e ≡ get_or s.source_lows i 0 → f ≡ get_or s.source_highs i 0
-    → g ≡ get_or s.destination_lows i 0 → h ≡ get_or s.destination_highs i 0 → k ≡ get_or s.protocols i 0 → m ≡ get_or s.decisions i 0
-    → record { source = a; source_length = b; destination = c; destination_length = d; source_low = e; source_high = f; destination_low = g; destination_high = h; protocol = k; decision = m } ≡ rule_at s i
-unfolding rule_at
-rule-read s i p q r t u v w x y z = cc
 
 -- what holds of each rule holds of the one at a position
 pub rules-at : (P : FiveFieldRule → Type 0) (s : Slices) (i n : ℕ) → All P (rules_from s i n) → (k : ℕ) → i ≤ k → k < i + n → P (rule_at s k)

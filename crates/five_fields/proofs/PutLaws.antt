@@ -4,8 +4,8 @@ use mathlib.Core.List.{List, [], ◌∷◌, ◌++◌, map, map-append, flat_map}
 use Prim.Native.Nat.{ℕ, suc, ◌+◌, ◌*◌, ◌-◌, ◌≤◌, ◌<◌}
 use native.Mathlib.Omega.{arith}
 use native.Mathlib.Numerals.{add-one}
-use lib.ListN.{length, take, drop, get_or, set, length-map, length-take, drop_of_length-le}
-use lib.Seq.{sets, sets-eq, drop-cons, get_or-take, length-take-le}
+use lib.ListN.{length, take, drop, get_or, set, length-map, drop_of_length-le}
+use lib.Seq.{sets, sets-eq, drop-cons}
 use Rattle.words.specs.Slices.{halves_of}
 use Rattle.words.proofs.SliceLaws.{Machine, halves-append, halves-length, halves-drop}
 use Rattle.rules.specs.declared.Rule.{Rule as Held}
@@ -20,7 +20,7 @@ use Rattle.five_numbers.specs.Fields.{port_bits}
 use Rattle.five_fields.specs.Slices.{Slices, rows, rule_at, rules_from, rules_in}
 use Rattle.five_fields.specs.Expansion.{entry, source_prefixes, destination_prefixes, expansion, expanded}
 use Rattle.five_fields.specs.Inner.{entry_by, entries_inside, entries_by, Put, PortWords}
-use Rattle.five_fields.proofs.ListLaws.{sets-append, rules-all, rules-next, rules-none}
+use Rattle.five_fields.proofs.ListLaws.{sets-append, rules-next, rules-none}
 use Rattle.five_fields.proofs.CountLaws.{expansion-count, left-count}
 
 -- ---- putting, step by step
@@ -29,10 +29,6 @@ use Rattle.five_fields.proofs.CountLaws.{expansion-count, left-count}
 pub record Putting (from : ℕ) (all : List Rule) (c₀ v₀ d₀ : List ℕ) (at : ℕ) (rest : List Rule) (c v d : List ℕ) : Type 0 where
   pub kept : Kept c₀ v₀ d₀ c v d
   pub rules : sets (rules_of c v d) at rest ≡ sets (rules_of c₀ v₀ d₀) from all
-
-pub putting-all : (from : ℕ) (all : List Rule) (c v d : List ℕ) (at : ℕ) (rest : List Rule) → at ≡ from → rest ≡ all → Putting from all c v d at rest c v d
-putting-all from all c v d at rest e f =
-    record { kept = record { cares = refl; values = refl; decisions = refl }; rules = ap₂ (sets (rules_of c v d)) e f }
 
 module _ (from : ℕ) (all : List Rule) (c₀ v₀ d₀ : List ℕ) (at : ℕ) where
   pub putting-none : (rest : List Rule) (c v d : List ℕ) → rest ≡ [] → Putting from all c₀ v₀ d₀ at rest c v d → Put from all c₀ v₀ d₀ c v d
@@ -75,24 +71,21 @@ put_one at e c v d c' v' d' r h p =
 
 -- ---- the entries that are left, by words
 
--- the first of the numbers from place j on, of the first n
-part-next : (l : List ℕ) (j n : ℕ) → j < n → n ≤ length l → drop j (take n l) ≡ get_or l j 0 ∷ drop (j + 1) (take n l)
-part-next l j n h k =
-    drop-cons (take n l) j 0 (omega (arith, length-take-le n l k))
-    ∙ ap₂ (λ (x i : ℕ). x ∷ drop i (take n l)) (get_or-take n l j 0 h) (sym (add-one j))
+-- the first of the numbers from place j on
+part-next : (l : List ℕ) (j : ℕ) → j < length l → drop j l ≡ get_or l j 0 ∷ drop (j + 1) l
+part-next l j h = drop-cons l j 0 h ∙ ap (λ (i : ℕ). get_or l j 0 ∷ drop i l) (sym (add-one j))
 
 module _ (r : FiveFieldRule) where
   -- with one source prefix, from destination prefix j on
-  pub inside-next : (sc sv : ℕ) (cs vs : List ℕ) (j n : ℕ) → j < n → n ≤ length cs → n ≤ length vs
-      → entries_inside r sc sv (drop j (take n cs)) (drop j (take n vs))
-      ≡ (entry_by r sc sv (get_or cs j 0) (get_or vs j 0) ∷ []) ++ entries_inside r sc sv (drop (j + 1) (take n cs)) (drop (j + 1) (take n vs))
+  pub inside-next : (sc sv : ℕ) (cs vs : List ℕ) (j : ℕ) → j < length cs → length cs ≡ length vs
+      → entries_inside r sc sv (drop j cs) (drop j vs)
+      ≡ (entry_by r sc sv (get_or cs j 0) (get_or vs j 0) ∷ []) ++ entries_inside r sc sv (drop (j + 1) cs) (drop (j + 1) vs)
   unfolding entries_inside
-  inside-next sc sv cs vs j n h p q =
-      ap₂ (entries_inside r sc sv) (part-next cs j n h p) (part-next vs j n h q)
+  inside-next sc sv cs vs j h e = ap₂ (entries_inside r sc sv) (part-next cs j h) (part-next vs j (omega arith))
 
-  pub inside-none : (sc sv : ℕ) (cs vs : List ℕ) (j n : ℕ) → n ≤ j → entries_inside r sc sv (drop j (take n cs)) (drop j (take n vs)) ≡ []
+  pub inside-none : (sc sv : ℕ) (cs vs : List ℕ) (j : ℕ) → length cs ≤ j → entries_inside r sc sv (drop j cs) (drop j vs) ≡ []
   unfolding entries_inside
-  inside-none sc sv cs vs j n h = ap (λ (l : List ℕ). entries_inside r sc sv l (drop j (take n vs))) (drop_of_length-le (take n cs) {i = j} (omega (arith, length-take n cs)))
+  inside-none sc sv cs vs j h = ap (λ (l : List ℕ). entries_inside r sc sv l (drop j vs)) (drop_of_length-le cs {i = j} h)
 
   pub inside-length : (sc sv : ℕ) (cs vs : List ℕ) → length cs ≡ length vs → length (entries_inside r sc sv cs vs) ≡ length cs
   unfolding entries_inside
@@ -101,16 +94,15 @@ module _ (r : FiveFieldRule) where
   inside-length sc sv (c ∷ cs) (v ∷ vs) e = ap suc (inside-length sc sv cs vs (omega arith))
 
   -- from source prefix i on
-  pub pairs_next : (scs svs cs vs : List ℕ) (i m : ℕ) → i < m → m ≤ length scs → m ≤ length svs
-      → entries_by r (drop i (take m scs)) (drop i (take m svs)) cs vs
-      ≡ entries_inside r (get_or scs i 0) (get_or svs i 0) cs vs ++ entries_by r (drop (i + 1) (take m scs)) (drop (i + 1) (take m svs)) cs vs
+  pub pairs_next : (scs svs cs vs : List ℕ) (i : ℕ) → i < length scs → length scs ≡ length svs
+      → entries_by r (drop i scs) (drop i svs) cs vs
+      ≡ entries_inside r (get_or scs i 0) (get_or svs i 0) cs vs ++ entries_by r (drop (i + 1) scs) (drop (i + 1) svs) cs vs
   unfolding entries_by
-  pairs_next scs svs cs vs i m h p q =
-      ap₂ (λ (x y : List ℕ). entries_by r x y cs vs) (part-next scs i m h p) (part-next svs i m h q)
+  pairs_next scs svs cs vs i h e = ap₂ (λ (x y : List ℕ). entries_by r x y cs vs) (part-next scs i h) (part-next svs i (omega arith))
 
-  pub pairs-none : (scs svs cs vs : List ℕ) (i m : ℕ) → m ≤ i → entries_by r (drop i (take m scs)) (drop i (take m svs)) cs vs ≡ []
+  pub pairs-none : (scs svs cs vs : List ℕ) (i : ℕ) → length scs ≤ i → entries_by r (drop i scs) (drop i svs) cs vs ≡ []
   unfolding entries_by
-  pairs-none scs svs cs vs i m h = ap (λ (l : List ℕ). entries_by r l (drop i (take m svs)) cs vs) (drop_of_length-le (take m scs) {i = i} (omega (arith, length-take m scs)))
+  pairs-none scs svs cs vs i h = ap (λ (l : List ℕ). entries_by r l (drop i svs) cs vs) (drop_of_length-le scs {i = i} h)
 
   -- ---- by words and by prefixes
 
@@ -135,12 +127,12 @@ module _ (r : FiveFieldRule) where
       four : {a a' b b' c c' d d' : List ℕ} → a ≡ a' → b ≡ b' → c ≡ c' → d ≡ d' → entries_by r a b c d ≡ entries_by r a' b' c' d'
       four e f g h = cc
 
--- the words of ports are in slices that are long enough
-pub words-fit : (low high n : ℕ) (cs vs : List ℕ) → PortWords low high n cs vs → (n ≤ length cs) × (n ≤ length vs)
-words-fit low high n cs vs p = (fit cs (care_word port_bits) p.cares, fit vs value_word p.values)
+-- the first places that hold the words of ports are as many as they are
+pub words-length : (low high n : ℕ) (cs vs : List ℕ) → PortWords low high n cs vs → (length (take n cs) ≡ n) × (length (take n vs) ≡ n)
+words-length low high n cs vs p = (long (care_word port_bits) p.cares, long value_word p.values)
   where
-    fit : (l : List ℕ) (f : Prefix → ℕ) → take n l ≡ map f (range_prefixes port_bits low high) → n ≤ length l
-    fit l f e = omega (arith, length-take n l, ap length e, length-map (range_prefixes port_bits low high) f, p.count)
+    long : {l : List ℕ} (f : Prefix → ℕ) → l ≡ map f (range_prefixes port_bits low high) → length l ≡ n
+    long f e = ap length e ∙ length-map (range_prefixes port_bits low high) f ∙ sym p.count
 
 -- so many are they
 pub words_count : (r : FiveFieldRule) (m n : ℕ) (scs svs cs vs : List ℕ) → PortWords r.source_low r.source_high m scs svs → PortWords r.destination_low r.destination_high n cs vs
@@ -159,14 +151,8 @@ rules-done s i h = ap expanded (rules-none s i (rows s) h)
 
 -- The entries of the rules before position i are put, up to place `at`.
 pub record Expanding (s : Slices) (c₀ v₀ d₀ : List ℕ) (i at : ℕ) (c v d : List ℕ) : Type 0 where
-  pub inside : i ≤ rows s
   pub count : at + length (expanded (rules_from s i (rows s - i))) ≡ length (expanded (rules_in s))
   pub put : Putting 0 (expanded (rules_in s)) c₀ v₀ d₀ at (expanded (rules_from s i (rows s - i))) c v d
-
-pub expanding-none : (s : Slices) (c v d : List ℕ) → Expanding s c v d 0 0 c v d
-expanding-none s c v d =
-    let e : expanded (rules_from s 0 (rows s - 0)) ≡ expanded (rules_in s) = ap expanded (rules-all s) in
-    record { inside = omega arith; count = omega (arith, ap length e); put = putting-all 0 _ c v d 0 _ refl e }
 
 module _ (s : Slices) (c₀ v₀ d₀ : List ℕ) (i at : ℕ) (c v d : List ℕ) (x : Expanding s c₀ v₀ d₀ i at c v d) where
   -- the next rule has its room among all entries
@@ -179,7 +165,6 @@ module _ (s : Slices) (c₀ v₀ d₀ : List ℕ) (i at : ℕ) (c v d : List ℕ
   expanding-next h r e n f c' v' d' p =
       let g : length (expansion r) ≡ length (expansion (rule_at s i)) = ap (λ (y : FiveFieldRule). length (expansion y)) e in
       record {
-        inside = omega arith;
         count = omega (arith, x.count, left-count s i (rows s) h, f, g);
         put = putting-some 0 _ c₀ v₀ d₀ at _ (expansion r) _ c v d c' v' d' (rules-left s i h ∙ ap (λ (y : FiveFieldRule). expansion y ++ expanded (rules_from s (i + 1) (rows s - (i + 1)))) (sym e)) x.put p _ (omega (arith, f));
       }

@@ -14,22 +14,21 @@ use Rattle.rules.specs.declared.Wire.{Wire}
 use Rattle.rules.specs.Rules.{answer, Valid}
 use Rattle.rules.specs.Lists.{All}
 use Rattle.rules.specs.Slices.{rules_of, care_of, value_of, decision_of, cares_of, values_of, decisions_of, filled}
-use Rattle.rules.specs.Replies.{Gives, Refuses, passed}
+use Rattle.std.specs.Prelude.{Ok}
+use Rattle.rules.specs.Replies.{Gives, Refuses, passed, number_reply}
 use Rattle.rules.specs.Calls.{check_list, looked_up, decided, answered}
 use Rattle.rules.proofs.ReplyLaws.{then_next, then-refuses, then-assoc, then-second, one_value, bare-first, same-given}
 use Rattle.rules.proofs.ZipLaws.{ap₃}
 use Rattle.rules.proofs.CheckLaws.{sound-list, width-inside, results_fine, results-seven}
 use Rattle.rules.proofs.SliceLaws.{rules-columns}
 use Rattle.rules.proofs.AnswerLaws.{looked-answered}
-use Rattle.five_fields.specs.declared.Expanded.{Expanded}
-use Rattle.five_numbers.specs.declared.Built.{Built}
 use Rattle.five_numbers.specs.Numbers.{Numbers}
 use Rattle.five_numbers.specs.Fields.{header_bits, header_of, in_fields, numbers_of}
 use Rattle.five_fields.specs.FiveFieldRules.{decides}
 use Rattle.five_fields.specs.Slices.{Slices, rules_in}
 use Rattle.five_fields.specs.Expansion.{expanded}
-use Rattle.five_fields.specs.Calls.{expanded_reply, rules_check, source_check, count_reply, expand_check, expand_reply, ExpandDone}
-use Rattle.five_numbers.specs.Calls.{built_answer, header_reply}
+use Rattle.five_fields.specs.Calls.{rules_check, source_check, count_reply, expand_check, expand_reply, ExpandDone}
+use Rattle.five_numbers.specs.Calls.{built_reply, header_reply}
 use Rattle.five_numbers.proofs.Theorems.{header-fits, header-numbers, header-told}
 use Rattle.five_numbers.proofs.FieldLaws.{in-fields}
 use Rattle.five_fields.proofs.CheckLaws.{rules-sound}
@@ -74,7 +73,7 @@ pub record EntriesWritten (s : Slices) (cs vs ds cs' vs' ds' : List ℕ) (n : �
   pub values-after : drop (n * 2) vs' ≡ drop (n * 2) vs
   pub decisions-after : drop n ds' ≡ drop n ds
 
-module _ (s : Slices) (cs vs ds cs' vs' ds' : List ℕ) (n : ℕ) (d : ExpandDone s cs vs ds cs' vs' ds' (Expanded.Entries n)) where
+module _ (s : Slices) (cs vs ds cs' vs' ds' : List ℕ) (n : ℕ) (d : ExpandDone s cs vs ds cs' vs' ds' (Ok n)) where
   abbrev pub all : List Rule
   all = expanded (rules_in s)
 
@@ -154,7 +153,7 @@ module _ (s : Slices) (cs vs ds cs' vs' ds' : List ℕ) (n : ℕ) (d : ExpandDon
       ap (λ (k : ℕ). decided (looked_up header_bits (take (n * 2) cs') (take (n * 2) vs') (take n ds') k)) (sym x.theirs) ∙ entries-lookup (numbers_of h) x.inside
 
   -- And what `header` gives for five numbers gets what the five-field rules decide for them.
-  pub entries-header : (five : Numbers) (x : Wire) → Built.Header x ≡ built_answer (header_reply five)
+  pub entries-header : (five : Numbers) (x : Wire) → built_reply (Ok x) ≡ header_reply five
       → decided (looked_up header_bits (take (n * 2) cs') (take (n * 2) vs') (take n ds') (num x.0)) ≡ answered (decides (rules_in s) five)
   entries-header five x e =
       let h = header-told five x e in
@@ -163,7 +162,7 @@ module _ (s : Slices) (cs vs ds cs' vs' ds' : List ℕ) (n : ℕ) (d : ExpandDon
 -- ---- the number first, and then the entries
 
 -- With so many places in result slices that belong together `expand` answers the number that `expansion_count` gives.
-pub entries-answered : (s : Slices) (n : ℕ) (cs vs ds : List ℕ) → expanded_reply (Expanded.Entries n) ≡ count_reply s
+pub entries-answered : (s : Slices) (n : ℕ) (cs vs ds : List ℕ) → number_reply (Ok n) ≡ count_reply s
     → length cs ≡ length vs → length cs ≡ length ds * 2 → n ≤ length ds → expand_reply s cs vs ds ≡ Gives (n ∷ [])
 unfolding expand_reply expand_check
 entries-answered s n cs vs ds e p q h =
@@ -171,7 +170,7 @@ entries-answered s n cs vs ds e p q h =
     then_next _ _ (then_next _ _ c.0 ∙ results_fine (entry_count s) cs vs ds p q (omega (arith, h, c.1))) ∙ ap (λ (k : ℕ). Gives (k ∷ [])) (sym c.1)
 
 -- With fewer it is refused 7.
-pub entries-refused : (s : Slices) (n : ℕ) (cs vs ds : List ℕ) → expanded_reply (Expanded.Entries n) ≡ count_reply s
+pub entries-refused : (s : Slices) (n : ℕ) (cs vs ds : List ℕ) → number_reply (Ok n) ≡ count_reply s
     → length cs ≡ length vs → length cs ≡ length ds * 2 → length ds < n → expand_reply s cs vs ds ≡ Refuses 7 0 0
 unfolding expand_reply expand_check
 entries-refused s n cs vs ds e p q h =

@@ -1,21 +1,14 @@
 -- What the public calls reply, and what stands in the lent slices afterwards (request 06).
-use Rattle.std.specs.Prelude.{◌≡◌, List, [], ◌∷◌, ℕ, ◌+◌, ltb, length}
+use Rattle.std.specs.Prelude.{◌≡◌, Result, List, [], ◌∷◌, ℕ, ◌+◌, ltb, length}
 use Rattle.rules.specs.Rules.{no_match}
 use Rattle.rules.specs.Slices.{cares_of, values_of, decisions_of, filled}
-use Rattle.rules.specs.Replies.{Reply, Gives, passed, need, ◌then◌, refusal_reply, unless_refused}
+use Rattle.rules.specs.declared.Refusal.{Refusal}
+use Rattle.rules.specs.Replies.{Reply, Gives, passed, need, ◌then◌, number_reply, unless_refused}
 use Rattle.rules.specs.Checks.{size_check, lengths_check, room_check}
 use Rattle.five_fields.specs.FiveFieldRule.{FiveFieldRule}
-use Rattle.five_fields.specs.declared.Expanded.{Expanded}
 use Rattle.five_fields.specs.FiveFieldRules.{fields_fit, ports_fit}
 use Rattle.five_fields.specs.Slices.{Slices, rows, alike, rules_in}
 use Rattle.five_fields.specs.Expansion.{expanded}
-
--- ---- the numbers of each case of each answer
-
--- One value, the number of entries.
-abbrev pub expanded_reply : Expanded → Reply
-expanded_reply (Expanded.Entries n) = Gives (n ∷ [])
-expanded_reply (Expanded.Refused x) = refusal_reply x
 
 -- ---- a list of five-field rules
 
@@ -57,8 +50,8 @@ unfoldable pub expand_reply : Slices → (cares values decisions : List ℕ) →
 expand_reply s cs vs ds = expand_check s cs vs ds then Gives (length (expanded (rules_in s)) ∷ [])
 
 -- What `expand` promises: its reply, and what stands in each result slice afterwards. Places past the last entry keep their contents.
-pub record ExpandDone (s : Slices) (cs vs ds cs' vs' ds' : List ℕ) (answer : Expanded) : Type 0 where
-  pub reply : expanded_reply answer ≡ expand_reply s cs vs ds
+pub record ExpandDone (s : Slices) (cs vs ds cs' vs' ds' : List ℕ) (answer : Result ℕ Refusal) : Type 0 where
+  pub reply : number_reply answer ≡ expand_reply s cs vs ds
   pub cares : cs' ≡ unless_refused (expand_reply s cs vs ds) (filled (cares_of (expanded (rules_in s))) cs) cs
   pub values : vs' ≡ unless_refused (expand_reply s cs vs ds) (filled (values_of (expanded (rules_in s))) vs) vs
   pub decisions : ds' ≡ unless_refused (expand_reply s cs vs ds) (filled (decisions_of (expanded (rules_in s))) ds) ds

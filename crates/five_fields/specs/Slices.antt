@@ -1,6 +1,7 @@
 -- Ten slices as a list of five-field rules: the one place where slices become such rules (request 06).
 use Rattle.std.specs.Prelude.{List, [], ◌∷◌, Bool, true, ◌&&◌, ℕ, zero, suc, eqb, length, get_or}
 use Rattle.five_fields.specs.FiveFieldRule.{FiveFieldRule}
+use Rattle.five_fields.specs.declared.FiveFieldRules.{FiveFieldRules}
 
 -- The ten slices.
 pub record Slices : Type 0 where
@@ -29,6 +30,12 @@ slices s sl d dl spl sph dpl dph p ds =
       protocols = p;
       decisions = ds;
     }
+
+-- The ten slices that are lent.
+abbrev pub lent : FiveFieldRules → Slices
+lent r =
+    slices r.source.now r.source_length.now r.destination.now r.destination_length.now r.source_low.now r.source_high.now r.destination_low.now
+    r.destination_high.now r.protocol.now r.decision.now
 
 -- The rules are counted by the decisions.
 abbrev pub rows : Slices → ℕ

@@ -1,29 +1,26 @@
 // How many entries a list of five-field rules becomes.
 ghost use Rattle.std.specs.Prelude.{◌≡◌, true, length};
-ghost use Rattle.rules.specs.Replies.{passed};
+ghost use Rattle.rules.specs.Replies.{passed, number_reply};
 ghost use Rattle.ranges.specs.Ranges.{range_prefixes};
 ghost use Rattle.ranges.specs.Calls.{is_range};
 ghost use Rattle.five_fields.specs.FiveFieldRule.{rule_of};
 ghost use Rattle.five_numbers.specs.Fields.{port_bits};
 ghost use Rattle.five_fields.specs.FiveFieldRules.{ports_fit};
-ghost use Rattle.five_fields.specs.Slices.{slices, rules_in};
+ghost use Rattle.five_fields.specs.Slices.{lent, rules_in};
 ghost use Rattle.five_fields.specs.Expansion.{expansion, expanded};
-ghost use Rattle.five_fields.specs.Calls.{expanded_reply, rules_check, count_reply};
+ghost use Rattle.five_fields.specs.Calls.{rules_check, count_reply};
 
-use crate::checks::{rule_at, rules_verdict};
-use crate::{Expanded, FiveFieldRule};
-use ranges::{Covered, range_prefix_count};
-use rules::{Refusal, Verdict};
+use crate::checks::{rule_at, rules_verdict, size_verdict};
+use crate::{FiveFieldRule, FiveFieldRules};
+use ranges::range_prefix_count;
+use rules::Refusal;
 
 // How many prefixes a range of ports takes.
 fn prefix_count(low: u32, high: u32) -> usize
     requires { is_range port_bits low high ≡ true }
     ensures { result ≡ length (range_prefixes port_bits low high) }
 {
-    match range_prefix_count(16, low, high) {
-        Covered::Prefixes(n) => n,
-        Covered::Refused(_) => 0,
-    }
+    range_prefix_count(16, low, high).unwrap()
 }
 
 // How many entries a rule becomes.
@@ -36,94 +33,24 @@ fn rule_count(rule: FiveFieldRule) -> usize
 }
 
 // How many entries all rules become. No rule becomes more than 900, so the sum stays far below what a number holds.
-fn entries(
-    source: &[u32],
-    source_length: &[u32],
-    destination: &[u32],
-    destination_length: &[u32],
-    source_low: &[u32],
-    source_high: &[u32],
-    destination_low: &[u32],
-    destination_high: &[u32],
-    protocol: &[u32],
-    decision: &[u16],
-) -> usize
-    requires { rules_check (slices source.now source_length.now destination.now destination_length.now
-        source_low.now source_high.now destination_low.now destination_high.now protocol.now decision.now) ≡ passed }
-    ensures { result ≡ length (expanded (rules_in (slices source.now source_length.now destination.now destination_length.now
-        source_low.now source_high.now destination_low.now destination_high.now protocol.now decision.now))) }
+fn entries(rules: FiveFieldRules<'_>) -> usize
+    requires { rules_check (lent rules) ≡ passed }
+    ensures { result ≡ length (expanded (rules_in (lent rules.entry))) }
 {
     let mut n: usize = 0;
-    let mut i: usize = 0;
-    while i < decision.len() {
-        let rule = rule_at(
-            source,
-            source_length,
-            destination,
-            destination_length,
-            source_low,
-            source_high,
-            destination_low,
-            destination_high,
-            protocol,
-            decision,
-            i,
-        );
-        n += rule_count(rule);
-        i += 1;
+    for i in 0..rules.decision.len() {
+        n += rule_count(rule_at(rules, i));
     }
     n
 }
 
 // How many entries the ternary list of these rules has: 2 and 3, then the rules one by one, then 3 for more than 1,024 entries.
-pub fn expansion_count(
-    source: &[u32],
-    source_length: &[u32],
-    destination: &[u32],
-    destination_length: &[u32],
-    source_low: &[u32],
-    source_high: &[u32],
-    destination_low: &[u32],
-    destination_high: &[u32],
-    protocol: &[u32],
-    decision: &[u16],
-) -> Expanded
-    ensures { expanded_reply result ≡ count_reply (slices source.now source_length.now destination.now destination_length.now
-        source_low.now source_high.now destination_low.now destination_high.now protocol.now decision.now) }
+#[tactic(auto, unfolding(crate::specs::Calls::count_reply, crate::specs::Calls::source_check))]
+pub fn expansion_count(rules: FiveFieldRules<'_>) -> Result<usize, Refusal>
+    ensures { number_reply result ≡ count_reply (lent rules.entry) }
 {
-    let v = rules_verdict(
-        source,
-        source_length,
-        destination,
-        destination_length,
-        source_low,
-        source_high,
-        destination_low,
-        destination_high,
-        protocol,
-        decision,
-    );
-    if let Verdict::Refused(x) = v {
-        return Expanded::Refused(x);
-    }
-    let n = entries(
-        source,
-        source_length,
-        destination,
-        destination_length,
-        source_low,
-        source_high,
-        destination_low,
-        destination_high,
-        protocol,
-        decision,
-    );
-    if 1024 < n {
-        return Expanded::Refused(Refusal {
-            number: 3,
-            list: 1,
-            rule: 0,
-        });
-    }
-    Expanded::Entries(n)
+    rules_verdict(rules)?;
+    let n = entries(rules);
+    size_verdict(n)?;
+    Ok(n)
 }

@@ -7,7 +7,7 @@ ghost use Rattle.ranges.specs.Calls.{is_range};
 ghost use Rattle.five_fields.specs.FiveFieldRule.{rule_of};
 ghost use Rattle.five_numbers.specs.Fields.{port_bits};
 ghost use Rattle.five_fields.specs.FiveFieldRules.{fields_fit, ports_fit};
-ghost use Rattle.five_fields.specs.Slices.{slices, rules_in};
+ghost use Rattle.five_fields.specs.Slices.{lent, rules_in};
 ghost use Rattle.five_fields.specs.Expansion.{expansion, expanded};
 ghost use Rattle.five_fields.specs.Calls.{rules_check, ExpandDone};
 ghost use Rattle.five_fields.specs.Inner.{Put, PortWords};
@@ -15,19 +15,16 @@ ghost use Rattle.five_fields.specs.Inner.{Put, PortWords};
 use crate::checks::rule_at;
 use crate::counts::expansion_count;
 use crate::entries::put_pairs;
-use crate::{Expanded, FiveFieldRule};
-use ranges::{Covered, range_prefixes};
-use rules::{Verdict, refused};
+use crate::{FiveFieldRule, FiveFieldRules};
+use ranges::range_prefixes;
+use rules::{Reason, Refusal, refused};
 
 // Puts the words of the prefixes of a range of ports into two slices, and returns how many they are. No range takes more than 30.
 fn put_ports(low: u32, high: u32, cares: &mut [u16], values: &mut [u16]) -> usize
     requires { (is_range port_bits low high ≡ true) × (30 ≤ length cares.old) × (length cares.old ≡ length values.old) }
     ensures { PortWords low high result cares.new values.new }
 {
-    match range_prefixes(16, low, high, cares, values) {
-        Covered::Prefixes(n) => n,
-        Covered::Refused(_) => 0,
-    }
+    range_prefixes(16, low, high, cares, values).unwrap()
 }
 
 // Puts the entries of a rule from place `at` on, and returns how many they are.
@@ -61,12 +58,10 @@ fn put_expansion(
     );
     put_pairs(
         rule,
-        &source_cares,
-        &source_values,
-        m,
-        &cares,
-        &values,
-        n,
+        &source_cares[..m],
+        &source_values[..m],
+        &cares[..n],
+        &values[..n],
         at,
         care,
         value,
@@ -76,124 +71,50 @@ fn put_expansion(
 }
 
 // Puts the entries of all rules from the first place on.
-fn put_all(
-    source: &[u32],
-    source_length: &[u32],
-    destination: &[u32],
-    destination_length: &[u32],
-    source_low: &[u32],
-    source_high: &[u32],
-    destination_low: &[u32],
-    destination_high: &[u32],
-    protocol: &[u32],
-    decision: &[u16],
-    out_care: &mut [u64],
-    out_value: &mut [u64],
-    out_decision: &mut [u16],
-)
-    requires { (rules_check (slices source.now source_length.now destination.now destination_length.now
-        source_low.now source_high.now destination_low.now destination_high.now protocol.now decision.now) ≡ passed)
-        × (length (expanded (rules_in (slices source.now source_length.now destination.now destination_length.now
-        source_low.now source_high.now destination_low.now destination_high.now protocol.now decision.now))) ≤ length out_decision.old)
-        × Lent out_care.old out_value.old out_decision.old }
-    ensures { Put 0 (expanded (rules_in (slices source.now source_length.now destination.now destination_length.now
-        source_low.now source_high.now destination_low.now destination_high.now protocol.now decision.now)))
-        out_care.old out_value.old out_decision.old
-        out_care.new out_value.new out_decision.new }
+fn put_all(rules: FiveFieldRules<'_>, care: &mut [u64], value: &mut [u64], decision: &mut [u16])
+    requires { (rules_check (lent rules) ≡ passed) × (length (expanded (rules_in (lent rules))) ≤ length decision.old)
+        × Lent care.old value.old decision.old }
+    ensures { Put 0 (expanded (rules_in (lent rules.entry))) care.old value.old decision.old
+        care.new value.new decision.new }
 {
     let mut at: usize = 0;
-    let mut i: usize = 0;
-    while i < decision.len() {
-        let rule = rule_at(
-            source,
-            source_length,
-            destination,
-            destination_length,
-            source_low,
-            source_high,
-            destination_low,
-            destination_high,
-            protocol,
-            decision,
-            i,
-        );
-        at += put_expansion(rule, at, out_care, out_value, out_decision);
-        i += 1;
+    for i in 0..rules.decision.len() {
+        at += put_expansion(rule_at(rules, i), at, care, value, decision);
     }
 }
 
 // What can be wrong with the lengths of three result slices for n entries: 2, then 7.
-fn results_verdict(n: usize, cares: usize, values: usize, decisions: usize) -> Verdict
+#[tactic(auto, unfolding(rules::specs::Checks::room_check))]
+fn results_verdict(n: usize, cares: usize, values: usize, decisions: usize) -> Result<(), Refusal>
     requires { decisions * 2 < 2 ^ 64 }
     ensures { verdict_reply result ≡ (need (eqb cares values && eqb cares (decisions * 2)) 2 0 0 then room_check n decisions) }
 {
     if cares != values {
-        return refused(2, 0, 0);
+        return refused(Reason::Slices, 0, 0);
     }
     if cares != decisions * 2 {
-        return refused(2, 0, 0);
+        return refused(Reason::Slices, 0, 0);
     }
     if decisions < n {
-        return refused(7, 0, 0);
+        return refused(Reason::Room, 0, 0);
     }
-    Verdict::Fine
+    Ok(())
 }
 
 // The ternary list of five-field rules, in the last three slices: 2 and 3, the rules one by one, 3 for more than 1,024 entries, then 2 and
 // 7 of the result slices; else how many entries it has.
+#[tactic(auto, unfolding(crate::specs::Calls::expand_reply, crate::specs::Calls::expand_check, crate::specs::Calls::count_reply, rules::specs::Checks::lengths_check))]
 pub fn expand(
-    source: &[u32],
-    source_length: &[u32],
-    destination: &[u32],
-    destination_length: &[u32],
-    source_low: &[u32],
-    source_high: &[u32],
-    destination_low: &[u32],
-    destination_high: &[u32],
-    protocol: &[u32],
-    decision: &[u16],
-    out_care: &mut [u64],
-    out_value: &mut [u64],
-    out_decision: &mut [u16],
-) -> Expanded
-    ensures { ExpandDone (slices source.now source_length.now destination.now destination_length.now
-        source_low.now source_high.now destination_low.now destination_high.now protocol.now decision.now)
-        out_care.old out_value.old out_decision.old
-        out_care.new out_value.new out_decision.new result }
+    rules: FiveFieldRules<'_>,
+    care: &mut [u64],
+    value: &mut [u64],
+    decision: &mut [u16],
+) -> Result<usize, Refusal>
+    ensures { ExpandDone (lent rules.entry) care.old value.old decision.old
+        care.new value.new decision.new result }
 {
-    let counted = expansion_count(
-        source,
-        source_length,
-        destination,
-        destination_length,
-        source_low,
-        source_high,
-        destination_low,
-        destination_high,
-        protocol,
-        decision,
-    );
-    let Expanded::Entries(n) = counted else {
-        return counted;
-    };
-    let v = results_verdict(n, out_care.len(), out_value.len(), out_decision.len());
-    if let Verdict::Refused(x) = v {
-        return Expanded::Refused(x);
-    }
-    put_all(
-        source,
-        source_length,
-        destination,
-        destination_length,
-        source_low,
-        source_high,
-        destination_low,
-        destination_high,
-        protocol,
-        decision,
-        out_care,
-        out_value,
-        out_decision,
-    );
-    Expanded::Entries(n)
+    let n = expansion_count(rules)?;
+    results_verdict(n, care.len(), value.len(), decision.len())?;
+    put_all(rules, care, value, decision);
+    Ok(n)
 }

@@ -8,7 +8,6 @@ mod expansions;
 
 pub use counts::expansion_count;
 pub use expansions::expand;
-use rules::Refusal;
 
 // A rule over five fields: a prefix of the source address and one of the destination address, each an address and how many of its first
 // bits count; a range of source ports and one of destination ports; a protocol, or 256 for any; and the decision.
@@ -26,9 +25,17 @@ pub struct FiveFieldRule {
     pub decision: u16,
 }
 
-// How many entries a list of five-field rules becomes.
+// A list of such rules: each slice has one field of every rule.
 #[derive(Clone, Copy)]
-pub enum Expanded {
-    Entries(usize),
-    Refused(Refusal),
+pub struct FiveFieldRules<'a> {
+    pub source: &'a [u32],
+    pub source_length: &'a [u32],
+    pub destination: &'a [u32],
+    pub destination_length: &'a [u32],
+    pub source_low: &'a [u32],
+    pub source_high: &'a [u32],
+    pub destination_low: &'a [u32],
+    pub destination_high: &'a [u32],
+    pub protocol: &'a [u32],
+    pub decision: &'a [u16],
 }

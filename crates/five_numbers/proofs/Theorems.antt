@@ -2,17 +2,14 @@
 use mathlib.Core.Path.{◌≡◌, sym, ap, ◌∙◌}
 use mathlib.Core.Bool.{true}
 use Prim.Native.Nat.{ℕ, ◌^◌, ◌<◌}
-use Rattle.words.specs.Halves.{num, halves}
-use Rattle.words.proofs.Tests.{split as by}
-use Rattle.words.proofs.WordLaws.{num-halves}
+use Rattle.words.specs.Halves.{num}
 use Rattle.rules.specs.declared.Wire.{Wire}
+use Rattle.std.specs.Prelude.{Ok}
 use Rattle.rules.specs.Replies.{need}
-use Rattle.rules.proofs.ReplyLaws.{then_next, then-refuses, need-yes, need-no}
-use Rattle.five_numbers.specs.declared.Built.{Built}
+use Rattle.rules.proofs.ReplyLaws.{need-then, then-second, one_value}
 use Rattle.five_numbers.specs.Numbers.{Numbers}
 use Rattle.five_numbers.specs.Fields.{header_bits, header_of, in_fields, numbers_of}
-use Rattle.five_numbers.specs.Calls.{built_answer, header_reply}
-use Rattle.five_numbers.proofs.CallLaws.{one-header, header_refused}
+use Rattle.five_numbers.specs.Calls.{built_reply, header_reply}
 use Rattle.five_numbers.proofs.FieldLaws.{in-fields, fields_in, joined-lt, header-back, header-within, numbers-back}
 
 -- ---- headers and their five numbers
@@ -36,12 +33,6 @@ header-numbers h l =
     }
 
 -- What `header` gives is the header of the five numbers, which are of their fields.
-pub header-told : (n : Numbers) (x : Wire) → Built.Header x ≡ built_answer (header_reply n) → (in_fields n ≡ true) × (num x.0 ≡ header_of n)
+pub header-told : (n : Numbers) (x : Wire) → built_reply (Ok x) ≡ header_reply n → (in_fields n ≡ true) × (num x.0 ≡ header_of n)
 unfolding header_reply
-header-told n x e =
-    by (in_fields n)
-    (λ t. (t, same-header (ap built_answer (then_next (need (in_fields n) 6 0 0) _ (need-yes _ 6 0 0 t)))))
-    (λ f. absurd (header_refused (e ∙ ap built_answer (then-refuses (need (in_fields n) 6 0 0) _ (need-no _ 6 0 0 f)))))
-  where
-    same-header : built_answer (header_reply n) ≡ Built.Header (record { 0 = halves (header_of n) }) → num x.0 ≡ header_of n
-    same-header f = let w : x ≡ record { 0 = halves (header_of n) } = one-header (e ∙ f) in ap (λ (y : Wire). num y.0) w ∙ num-halves (header_of n)
+header-told n x e = (need-then _ 6 0 0 _ _ (sym e), sym (one_value (then-second (need (in_fields n) 6 0 0) _ _ (sym e))))

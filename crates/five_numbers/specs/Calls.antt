@@ -1,15 +1,15 @@
 -- What the call replies: 6, or the header (request 06).
-use Rattle.std.specs.Prelude.{[], ◌∷◌, get_or}
-use Rattle.words.specs.Halves.{halves}
-use Rattle.rules.specs.Replies.{Reply, Gives, Refuses, need, ◌then◌, refusal}
-use Rattle.five_numbers.specs.declared.Built.{Built}
+use Rattle.std.specs.Prelude.{[], ◌∷◌, Result}
+use Rattle.words.specs.Halves.{num}
+use Rattle.rules.specs.declared.Refusal.{Refusal}
+use Rattle.rules.specs.declared.Wire.{Wire}
+use Rattle.rules.specs.Replies.{Reply, Gives, need, ◌then◌, reply}
 use Rattle.five_numbers.specs.Numbers.{Numbers}
 use Rattle.five_numbers.specs.Fields.{header_of, in_fields}
 
--- A header: the number of the reply in its word, or the refusal.
-abbrev pub built_answer : Reply → Built
-built_answer (Gives ns) = Built.Header (record { 0 = halves (get_or ns 0 0) })
-built_answer (Refuses n l r) = Built.Refused (refusal n l r)
+-- One value, the number that the header's word holds.
+abbrev pub built_reply : Result Wire Refusal → Reply
+built_reply r = reply (λ h. num h.0 ∷ []) r
 
 -- The header of five numbers: 6 where one of them is outside its field.
 unfoldable pub header_reply : Numbers → Reply

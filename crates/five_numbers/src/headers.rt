@@ -1,26 +1,26 @@
 // The header of five numbers, in wire order.
-ghost use Rattle.std.specs.Prelude.{◌≡◌, ◌^◌, ◌<◌};
+ghost use Rattle.std.specs.Prelude.{◌≡◌, ◌^◌, ◌<◌, IfOk};
 ghost use Rattle.words.specs.Halves.{halves};
+ghost use Rattle.rules.specs.Replies.{verdict_reply, need};
 ghost use Rattle.five_numbers.specs.Numbers.{five_of};
-ghost use Rattle.five_numbers.specs.Fields.{address_bits, port_bits, protocol_bits, joined, in_fields};
-ghost use Rattle.five_numbers.specs.Calls.{built_answer, header_reply};
+ghost use Rattle.five_numbers.specs.Fields.{port_bits, protocol_bits, header_of, in_fields};
+ghost use Rattle.five_numbers.specs.Calls.{built_reply, header_reply};
 
-use crate::{Built, Numbers};
-use rules::{Refusal, Wire};
+use crate::Numbers;
+use rules::{Reason, Refusal, Wire, refused};
 use words::Word;
 
 // Five numbers as one word. The destination address stands across its halves: its first 8 bits in the high one, and 24 in the low one.
-fn joined(
-    source: u64,
-    destination: u64,
-    source_port: u64,
-    destination_port: u64,
-    protocol: u64,
-) -> Word
-    requires { (source < 2 ^ address_bits) × (destination < 2 ^ address_bits) × (source_port < 2 ^ port_bits) × (destination_port < 2 ^ port_bits)
-        × (protocol < 2 ^ protocol_bits) }
-    ensures { result ≡ halves (joined source destination source_port destination_port protocol) }
+fn joined(numbers: Numbers) -> Word
+    requires { (numbers.source_port < 2 ^ port_bits) × (numbers.destination_port < 2 ^ port_bits)
+        × (numbers.protocol < 2 ^ protocol_bits) }
+    ensures { result ≡ halves (header_of (five_of numbers)) }
 {
+    let source = u64::from(numbers.source);
+    let destination = u64::from(numbers.destination);
+    let source_port = u64::from(numbers.source_port);
+    let destination_port = u64::from(numbers.destination_port);
+    let protocol = u64::from(numbers.protocol);
     let first = destination / 16777216;
     let rest = destination % 16777216;
     Word {
@@ -30,29 +30,29 @@ fn joined(
 }
 
 // Whether each of five numbers is one of its field; an address always is.
+#[tactic(auto, unfolding(crate::specs::Fields::in_fields))]
 fn in_fields(numbers: Numbers) -> bool
     ensures { result ≡ in_fields (five_of numbers) }
 {
-    numbers.source_port < 65536 && (numbers.destination_port < 65536 && numbers.protocol < 256)
+    numbers.source_port < 65536 && numbers.destination_port < 65536 && numbers.protocol < 256
+}
+
+// Checks five numbers: 6 where one of them is outside its field.
+fn fields_verdict(numbers: Numbers) -> Result<(), Refusal>
+    ensures { verdict_reply result ≡ need (in_fields (five_of numbers)) 6 0 0 }
+{
+    if in_fields(numbers) {
+        return Ok(());
+    }
+    refused(Reason::Header, 0, 0)
 }
 
 // The header of five numbers: 6 where one of them is outside its field.
-pub fn header(numbers: Numbers) -> Built
-    ensures { result ≡ built_answer (header_reply (five_of numbers)) }
+#[tactic(auto, unfolding(crate::specs::Calls::header_reply))]
+pub fn header(numbers: Numbers) -> Result<Wire, Refusal>
+    ensures reply { built_reply result ≡ header_reply (five_of numbers) }
+    ensures word { IfOk result (λ h. h.0 ≡ halves (header_of (five_of numbers))) }
 {
-    if in_fields(numbers) {
-        let word = joined(
-            numbers.source as u64,
-            numbers.destination as u64,
-            numbers.source_port as u64,
-            numbers.destination_port as u64,
-            numbers.protocol as u64,
-        );
-        return Built::Header(Wire(word));
-    }
-    Built::Refused(Refusal {
-        number: 6,
-        list: 0,
-        rule: 0,
-    })
+    fields_verdict(numbers)?;
+    Ok(Wire(joined(numbers)))
 }

@@ -4,7 +4,6 @@
 mod headers;
 
 pub use headers::header;
-use rules::{Refusal, Wire};
 
 // The five numbers of a packet's header.
 #[derive(Clone, Copy)]
@@ -14,11 +13,4 @@ pub struct Numbers {
     pub source_port: u32,
     pub destination_port: u32,
     pub protocol: u32,
-}
-
-// The header of five numbers.
-#[derive(Clone, Copy)]
-pub enum Built {
-    Header(Wire),
-    Refused(Refusal),
 }

@@ -13,18 +13,17 @@ use Rattle.rules.specs.declared.Refusal.{Refusal}
 use Rattle.rules.specs.Rules.{Valid}
 use Rattle.rules.specs.Slices.{rules_of, Lent, care_of, value_of, decision_of, cares_of, values_of, decisions_of, filled}
 use Rattle.rules.specs.Lists.{All}
-use Rattle.rules.specs.Replies.{Reply, Gives, Refuses, passed, ◌then◌, refusal_reply, unless_refused}
+use Rattle.rules.specs.Replies.{Reply, Gives, Refuses, passed, ◌then◌, refusal_reply, unless_refused, number_reply}
 use Rattle.rules.specs.Checks.{lengths_check, room_check}
 use Rattle.rules.specs.Calls.{check_list}
 use Rattle.rules.proofs.ReplyLaws.{then_next, then-second, gives-refuses, one_value, Bare, bare-first, bare-then, bare-need}
 use Rattle.rules.proofs.CheckLaws.{sound-list, lengths-yes, room-yes, width-inside}
 use Rattle.rules.proofs.SliceLaws.{rules-length, rules-columns}
-use Rattle.image.specs.declared.NumberAnswer.{NumberAnswer}
+use Rattle.std.specs.Prelude.{Result, Ok, Err, is_some}
 use Rattle.image_form.specs.Images.{width_in}
 use Rattle.image_check.specs.Checks.{image_check}
-use Rattle.image.specs.Places.{place_of, list_with}
+use Rattle.image.specs.Places.{place_of, count_at, list_with}
 use Rattle.image.specs.Calls.{id_check, read_reply, ReadOut}
-use Rattle.image.specs.Replies.{number_reply}
 use Rattle.image_check.proofs.BareLaws.{bare-image}
 use Rattle.image.proofs.PassedLaws.{length-with, list-facts}
 
@@ -93,7 +92,7 @@ held-passes b id l n c v d p h =
 
 pub bare-id : (b : List ℕ) (id : ℕ) → Bare (id_check b id)
 unfolding id_check
-bare-id b id = bare-then (image_check b) _ (bare-need (place_of b id).found 15 0 0)
+bare-id b id = bare-then (image_check b) _ (bare-need (is_some (place_of b id)) 15 0 0)
 
 pub id-image : (b : List ℕ) (id : ℕ) → id_check b id ≡ passed → image_check b ≡ passed
 unfolding id_check
@@ -109,20 +108,20 @@ gives-stop (Refuses n l r) ns x e = e
 
 -- slices of 1,024 places, two numbers to each of the first two, are never too short
 room-enough : (b : List ℕ) (id : ℕ) (c v d : List ℕ) → length c ≡ 2048 → length v ≡ 2048 → length d ≡ 1024
-    → read_reply b id c v d ≡ (id_check b id then Gives ((place_of b id).count ∷ []))
+    → read_reply b id c v d ≡ (id_check b id then Gives (count_at (place_of b id) ∷ []))
 unfolding read_reply
 room-enough b id c v d p q s =
     same_next (id_check b id) _ _ (bare-id b id)
     (λ e.
     then_next (lengths_check c v d) _ (lengths-yes c v d (p ∙ sym q) (omega arith))
-    ∙ then_next (room_check (place_of b id).count (length d)) _ (room-yes _ _ (omega (arith, (list-facts b id (id-image b id e)).few))))
+    ∙ then_next (room_check (count_at (place_of b id)) (length d)) _ (room-yes _ _ (omega (arith, (list-facts b id (id-image b id e)).few))))
 
-module _ (b : List ℕ) (id : ℕ) (c v d : List ℕ) (x : NumberAnswer) (c' v' d' : List ℕ) (o : ReadOut b id c v d x c' v' d') where
-  pub read-refused : length c ≡ 2048 → length v ≡ 2048 → length d ≡ 1024 → {y : Refusal} → x ≡ NumberAnswer.Refused y → id_check b id ≡ refusal_reply y
+module _ (b : List ℕ) (id : ℕ) (c v d : List ℕ) (x : Result ℕ Refusal) (c' v' d' : List ℕ) (o : ReadOut b id c v d x c' v' d') where
+  pub read-refused : length c ≡ 2048 → length v ≡ 2048 → length d ≡ 1024 → {y : Refusal} → x ≡ Err y → id_check b id ≡ refusal_reply y
   read-refused p q s {y} e =
       gives-stop (id_check b id) _ y (sym (room-enough b id c v d p q s) ∙ sym o.answer ∙ ap number_reply e)
 
-  module _ (n : ℕ) (e : x ≡ NumberAnswer.Number n) where
+  module _ (n : ℕ) (e : x ≡ Ok n) where
     told : read_reply b id c v d ≡ Gives (n ∷ [])
     told = sym o.answer ∙ ap number_reply e
 
@@ -133,10 +132,10 @@ module _ (b : List ℕ) (id : ℕ) (c v d : List ℕ) (x : NumberAnswer) (c' v' 
     pub read-image : image_check b ≡ passed
     read-image = id-image b id read-passed
 
-    counted : (place_of b id).count ≡ n
+    counted : count_at (place_of b id) ≡ n
     unfolding read_reply
     counted =
-        one_value (then-second (room_check (place_of b id).count (length d)) _ (n ∷ [])
+        one_value (then-second (room_check (count_at (place_of b id)) (length d)) _ (n ∷ [])
         (then-second (lengths_check c v d) _ (n ∷ []) (then-second (id_check b id) _ (n ∷ []) told)))
 
     pub read-few : n ≤ 1024

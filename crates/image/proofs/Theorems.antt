@@ -3,27 +3,24 @@ use mathlib.Core.Path.{◌≡◌, refl, sym, ap, ◌∙◌}
 use mathlib.Core.List.{List, [], ◌∷◌}
 use mathlib.Core.Bool.{Bool, true, false}
 use Prim.Native.Nat.{ℕ, zero, suc, ◌+◌, ◌*◌, ◌≤◌, ◌<◌}
-use native.Mathlib.Nat.{zero-add, suc-add}
 use native.Mathlib.Omega.{arith}
 use lib.Dec.{eqb}
 use lib.ListN.{length, get_or, take, drop, length-drop}
 use lib.Seq.{drop-drop}
 use Rattle.rules.specs.Rule.{Rule}
-use Rattle.rules.specs.Rules.{rule}
 use Rattle.rules.specs.Replies.{Reply, passed, unless_refused}
-use Rattle.rules.proofs.ReplyLaws.{bare-first}
 use Rattle.image.specs.declared.places.Place.{Place}
-use Rattle.image_form.specs.Bytes.{part, le}
-use Rattle.image_form.specs.Formats.{word_bytes, rule_size}
+use Rattle.image_form.specs.Formats.{rule_size}
 use Rattle.image_form.specs.declared.Entry.{Entry}
 use Rattle.image_form.specs.Images.{Named, rule_in, rules_in, lists_in, total, format_in, count_in, entries_of, lists_of, rules_bytes}
 use Rattle.image_check.specs.Checks.{entries_check, contents_check, image_check}
-use Rattle.image.specs.Places.{place_in, place_at, pick_place, place_of, list_with}
-use Rattle.image.specs.Calls.{id_check, body_of}
-use Rattle.image_form.proofs.FormatLaws.{rule-words}
-use Rattle.image_check.proofs.BareLaws.{bare-image}
+use Rattle.image.specs.Places.{place_in, place_at, pick_place, place_of, count_at, rules_at, list_with}
+use Rattle.image.specs.Calls.{id_check, body_at, body_of}
+use Rattle.std.specs.Prelude.{Option, Some, None, IfSome}
+use Rattle.std.proofs.lemmas.List.{drop-take}
+use Rattle.image_form.proofs.NumberLaws.{rule-within}
 use Rattle.image_check.proofs.PassedLaws.{contents-passed, entries-facts}
-use Rattle.image.proofs.SeekLaws.{image-facts, place-fits}
+use Rattle.image.proofs.SeekLaws.{id-facts, places-fit}
 use Rattle.image.proofs.BackLaws.{AreBytes, bytes_drop, rules-back}
 
 -- ---- a list by its id
@@ -37,79 +34,59 @@ unfoldable pub rules_named : (id : ℕ) → List Named → List Rule
 rules_named id [] = []
 rules_named id (l ∷ ls) = pick_rules (eqb l.id id) l.rules (rules_named id ls)
 
-at_place : (fmt : ℕ) → List ℕ → Place → List Rule
-at_place fmt b p = rules_in fmt p.count (drop p.from b)
-
-picked : (fmt : ℕ) (t : Bool) (b : List ℕ) (x y : Place) → at_place fmt b (pick_place t x y) ≡ pick_rules t (at_place fmt b x) (at_place fmt b y)
+picked : (fmt : ℕ) (t : Bool) (b : List ℕ) (x y : Option Place) → rules_at fmt b (pick_place t x y) ≡ pick_rules t (rules_at fmt b x) (rules_at fmt b y)
 picked fmt true b x y = refl
 picked fmt false b x y = refl
 
-named_in : (fmt id next : ℕ) (es : List Entry) (b : List ℕ) → at_place fmt b (place_in fmt id next es) ≡ rules_named id (lists_in fmt es (drop next b))
-unfolding place_in rules_named lists_in rules_in at_place
+named_in : (fmt id next : ℕ) (es : List Entry) (b : List ℕ) → rules_at fmt b (place_in fmt id next es) ≡ rules_named id (lists_in fmt es (drop next b))
+unfolding place_in rules_named lists_in
 named_in fmt id next [] b = refl
 named_in fmt id next (e ∷ es) b =
-    picked fmt (eqb e.id id) b (place_at true next e.count) (place_in fmt id (next + rule_size fmt * e.count) es)
+    picked fmt (eqb e.id id) b (Some (place_at next e.count)) (place_in fmt id (next + rule_size fmt * e.count) es)
     ∙ ap (pick_rules (eqb e.id id) (rules_in fmt e.count (drop next b)))
     (named_in fmt id (next + rule_size fmt * e.count) es b ∙ ap (λ (s : List ℕ). rules_named id (lists_in fmt es s)) (sym (drop-drop (rule_size fmt * e.count) next b)))
 
 -- The rules that are read out for an id are those of the image's list with that id.
 pub list-named : (b : List ℕ) (id : ℕ) → list_with b id ≡ rules_named id (lists_of b)
-unfolding list_with place_of lists_of at_place
+unfolding list_with place_of lists_of
 list-named b id = named_in (format_in b) id (4 + 8 * count_in b) (entries_of b) b
 
 -- ---- the body and the reading out
-
-inside_take : (k p m : ℕ) (s : List ℕ) → p + k ≤ m → part k p (take m s) ≡ part k p s
-inside_take zero p m s h = refl
-inside_take (suc k) zero zero s h = absurd (omega arith)
-inside_take (suc k) zero (suc m) [] h = refl
-inside_take (suc k) zero (suc m) (x ∷ s) h = ap (λ (l : List ℕ). x ∷ l) (inside_take k 0 m s (omega arith))
-inside_take (suc k) (suc p) zero s h = absurd (omega arith)
-inside_take (suc k) (suc p) (suc m) [] h = refl
-inside_take (suc k) (suc p) (suc m) (x ∷ s) h = inside_take (suc k) p m s (omega arith)
-
--- what is left of nothing
-take_none : (n : ℕ) → take {A = ℕ} n [] ≡ []
-take_none zero = refl
-take_none (suc n) = refl
-
-drop-take : (k m : ℕ) (s : List ℕ) → drop k (take (k + m) s) ≡ take m (drop k s)
-drop-take zero m s = ap (λ (n : ℕ). take n s) (zero-add m)
-drop-take (suc k) m [] = ap (drop (suc k)) (take_none (suc k + m)) ∙ sym (take_none m)
-drop-take (suc k) m (x ∷ s) = ap (λ (n : ℕ). drop (suc k) (take n (x ∷ s))) (suc-add k m) ∙ drop-take k m s
 
 prefix : (fmt n : ℕ) (s : List ℕ) → rules_in fmt n (take (rule_size fmt * n) s) ≡ rules_in fmt n s
 unfolding rules_in
 prefix fmt zero s = refl
 prefix fmt (suc n) s =
-    let w : ℕ = word_bytes fmt in
     let z : ℕ = rule_size fmt in
-    let words = rule-words fmt in
     let times : z * suc n ≡ z + z * n = omega arith in
     let shorter : drop z (take (z * suc n) s) ≡ take (z * n) (drop z s) = ap (λ (k : ℕ). drop z (take k s)) times ∙ drop-take z (z * n) s in
-    (λ j. rule (le (inside_take w 0 (z * suc n) s (omega arith) j)) (le (inside_take w w (z * suc n) s (omega arith) j)) (le (inside_take 2 (w + w) (z * suc n) s (omega arith) j))
-    ∷ rules_in fmt n (shorter j))
+    (λ j. rule-within fmt (z * suc n) s (omega arith) j ∷ rules_in fmt n (shorter j))
     ∙ ap (λ (rs : List Rule). rule_in fmt s ∷ rs) (prefix fmt n (drop z s))
 
+rules-there : (fmt : ℕ) (b : List ℕ) (x : Option Place) → rules_in fmt (count_at x) (body_at fmt b x) ≡ rules_at fmt b x
+unfolding rules_in
+rules-there fmt b (Some p) = prefix fmt p.count (drop p.from b)
+rules-there fmt b None = refl
+
 -- The body that is handed back holds the rules that are read out.
-pub body-rules : (b : List ℕ) (id : ℕ) → id_check b id ≡ passed → rules_in (format_in b) (place_of b id).count (body_of b id) ≡ list_with b id
+pub body-rules : (b : List ℕ) (id : ℕ) → id_check b id ≡ passed → rules_in (format_in b) (count_at (place_of b id)) (body_of b id) ≡ list_with b id
 unfolding body_of list_with
 body-rules b id f =
-    ap (λ (u : Reply). rules_in (format_in b) (place_of b id).count (unless_refused u (part (rule_size (format_in b) * (place_of b id).count) (place_of b id).from b) [])) f
-    ∙ prefix (format_in b) (place_of b id).count (drop (place_of b id).from b)
+    ap (λ (u : Reply). rules_in (format_in b) (count_at (place_of b id)) (unless_refused u (body_at (format_in b) b (place_of b id)) [])) f
+    ∙ rules-there (format_in b) b (place_of b id)
+
+bytes-there : (fmt : ℕ) (b : List ℕ) (x : Option Place) → AreBytes b → IfSome x (λ p. p.from + rule_size fmt * p.count ≤ length b)
+    → body_at fmt b x ≡ rules_bytes fmt (rules_at fmt b x)
+unfolding rules_bytes
+bytes-there fmt b (Some p) h fits = sym (rules-back fmt p.count (drop p.from b) (bytes_drop p.from b h) (omega (arith, length-drop p.from b)))
+bytes-there fmt b None h fits = refl
 
 -- The body that is handed back is the bytes of the rules that are read out.
 pub body_bytes : (b : List ℕ) (id : ℕ) → AreBytes b → id_check b id ≡ passed → body_of b id ≡ rules_bytes (format_in b) (list_with b id)
-unfolding body_of list_with id_check
+unfolding body_of list_with
 body_bytes b id h f =
-    let facts = image-facts b [] (bare-first (image_check b) _ (bare-image b) [] f) in
-    let p = place_of b id in
-    let fits = place-fits b id facts.sums in
-    ap (λ (u : Reply). unless_refused u (part (rule_size (format_in b) * p.count) p.from b) []) f
-    ∙ sym (rules-back (format_in b) p.count (drop p.from b) (bytes_drop p.from b h) (within fits))
-  where
-    within : (place_of b id).from + rule_size (format_in b) * (place_of b id).count ≤ length b → rule_size (format_in b) * (place_of b id).count ≤ length (drop (place_of b id).from b)
-    within k = omega (arith, length-drop (place_of b id).from b)
+    ap (λ (u : Reply). unless_refused u (body_at (format_in b) b (place_of b id)) []) f
+    ∙ bytes-there (format_in b) b (place_of b id) h (places-fit b id (id-facts b id f).sums)
 
 -- ---- offsets
 

@@ -1,21 +1,21 @@
--- The head's and an entry's checks as the code's tests come to them.
-use mathlib.Core.Path.{◌≡◌, sym, ◌∙◌}
+-- What the checks of the head and of a contents entry pass, and what they say that passed.
+use mathlib.Core.Path.{◌≡◌, sym}
 use mathlib.Core.List.{List, []}
-use Prim.Native.Nat.{ℕ, ◌+◌, ◌*◌, ◌≤◌, ◌<◌}
+use Prim.Native.Nat.{ℕ, ◌+◌, ◌*◌, ◌≤◌}
 use native.Mathlib.Omega.{arith}
 use lib.ListN.{length, get_or}
-use mathlib.Core.Bool.{true, false, ◌&&◌}
+use mathlib.Core.Bool.{true, ◌&&◌}
 use lib.Dec.{leb, eqb}
-use borrow.Author.Tests.{le-leb, lt-leb, eq-eqb, ne_eqb, leb-true, eqb-true}
-use Rattle.rules.specs.Replies.{Refuses, passed, need, ◌then◌}
+use borrow.Author.Tests.{le-leb, eq-eqb, leb-true, eqb-true}
+use Rattle.rules.specs.Replies.{passed, need}
 use Rattle.rules.specs.Checks.{widest}
-use Rattle.rules.proofs.ReplyLaws.{need-then, need-passed, then_next, then-refuses, then-second, bare-first}
+use Rattle.rules.proofs.ReplyLaws.{need-then, need-passed, then_next, then-second, bare-first}
 use Rattle.words.proofs.Tests.{and-true}
 use Rattle.image_form.specs.Formats.{known, rule_size, most_places, format_check, range_check}
 use Rattle.image_form.specs.declared.Entry.{Entry}
 use Rattle.image_form.specs.Images.{format_in, width_in, count_in}
 use Rattle.image_check.specs.Checks.{head_check, count_check, entry_check}
-use Rattle.image_check.proofs.CountLaws.{count_none, count-many, count-fine, count-facts, bare-count}
+use Rattle.image_check.proofs.CountLaws.{count-fine, count-facts, bare-count}
 use Rattle.image_form.proofs.FormatLaws.{places-most}
 
 -- what the first three tests of a head leave: the size is right and the format is known
@@ -31,84 +31,21 @@ pub record Ranged (b : List ℕ) : Type 0 where
   pub wide : 1 ≤ width_in b
   pub narrow : width_in b ≤ most_places (format_in b)
 
-module _ (b : List ℕ) where
-  pub head-1 : length b < 4 → Refuses 10 0 0 ≡ head_check b
-  unfolding head_check format_check range_check
-  head-1 h1 = simp lt-leb
+-- a ranged head whose contents fit is passed
+pub head-fine : (b : List ℕ) → Ranged b → 1 ≤ count_in b → count_in b ≤ 16 → 4 + 8 * count_in b ≤ length b → passed ≡ head_check b
+unfolding head_check format_check range_check
+head-fine b r h7 h8 h9 =
+    let h1 = r.opened.least in
+    let h2 = r.opened.most in
+    let h4 = r.third in
+    let h5 = r.wide in
+    let h6 = r.narrow in
+    sym (simp (le-leb, eq-eqb, r.opened.zeroth))
 
-  pub head-2 : 4 ≤ length b → 65536 < length b → Refuses 10 0 0 ≡ head_check b
-  unfolding head_check format_check range_check
-  head-2 h1 h2 = simp (le-leb, lt-leb)
-
-  pub head-3 : 4 ≤ length b → length b ≤ 65536 → known (format_in b) ≡ false → Refuses 11 0 0 ≡ head_check b
-  unfolding head_check format_check range_check
-  head-3 h1 h2 h3 = simp (le-leb, h3)
-
-  module _ (o : Opened b) where
-    pub head-4 : (get_or b 3 0 ≡ 0 → ⊥) → Refuses 11 0 0 ≡ head_check b
-    unfolding head_check format_check range_check
-    head-4 h4 = let h1 = o.least in let h2 = o.most in simp (le-leb, ne_eqb, o.zeroth)
-
-    pub head-5 : get_or b 3 0 ≡ 0 → width_in b < 1 → Refuses 1 0 0 ≡ head_check b
-    unfolding head_check format_check range_check
-    head-5 h4 h5 = let h1 = o.least in let h2 = o.most in simp (le-leb, lt-leb, eq-eqb, o.zeroth)
-
-    pub head-6 : get_or b 3 0 ≡ 0 → 1 ≤ width_in b → most_places (format_in b) < width_in b → Refuses 1 0 0 ≡ head_check b
-    unfolding head_check format_check range_check
-    head-6 h4 h5 h6 = let h1 = o.least in let h2 = o.most in simp (le-leb, lt-leb, eq-eqb, o.zeroth)
-
-  module _ (r : Ranged b) where
-    -- the checks that are left
-    head-rest : head_check b
-        ≡ (need (leb 1 (count_in b)) 12 0 0 then need (leb (count_in b) 16) 12 0 0 then need (leb (4 + 8 * count_in b) (length b)) 12 0 0)
-    unfolding head_check format_check range_check
-    head-rest =
-        let h1 = r.opened.least in
-        let h2 = r.opened.most in
-        let h4 = r.third in
-        let h5 = r.wide in
-        let h6 = r.narrow in
-        simp (le-leb, eq-eqb, r.opened.zeroth)
-
-    pub head-7 : count_in b < 1 → Refuses 12 0 0 ≡ head_check b
-    head-7 h7 = sym (head-rest ∙ simp lt-leb)
-
-    pub head-8 : 1 ≤ count_in b → 16 < count_in b → Refuses 12 0 0 ≡ head_check b
-    head-8 h7 h8 = sym (head-rest ∙ simp (le-leb, lt-leb))
-
-    pub head-9 : 1 ≤ count_in b → count_in b ≤ 16 → length b < 4 + 8 * count_in b → Refuses 12 0 0 ≡ head_check b
-    head-9 h7 h8 h9 = sym (head-rest ∙ simp (le-leb, lt-leb))
-
-    pub head-fine : 1 ≤ count_in b → count_in b ≤ 16 → 4 + 8 * count_in b ≤ length b → passed ≡ head_check b
-    head-fine h7 h8 h9 = sym (head-rest ∙ simp le-leb)
-
-module _ (fmt size next least l : ℕ) (e : Entry) where
-  pub entry-1 : e.id < least → Refuses 13 l 0 ≡ entry_check fmt size next least l e
-  unfolding entry_check
-  entry-1 h1 = simp lt-leb
-
-  pub entry-2 : least ≤ e.id → (e.offset ≡ next → ⊥) → Refuses 14 l 0 ≡ entry_check fmt size next least l e
-  unfolding entry_check
-  entry-2 h1 h2 = simp (le-leb, ne_eqb)
-
-  module _ (h1 : least ≤ e.id) (h2 : e.offset ≡ next) where
-    -- the checks that are left
-    entry-rest : entry_check fmt size next least l e ≡ (count_check l e.count then need (leb (next + rule_size fmt * e.count) size) 10 l 0)
-    unfolding entry_check
-    entry-rest = simp (le-leb, eq-eqb)
-
-    pub entry-3 : e.count < 1 → Refuses 24 l 0 ≡ entry_check fmt size next least l e
-    entry-3 h3 = sym (entry-rest ∙ then-refuses _ _ (count_none l e.count h3))
-
-    pub entry-4 : 1024 < e.count → Refuses 3 l 0 ≡ entry_check fmt size next least l e
-    entry-4 h4 = sym (entry-rest ∙ then-refuses _ _ (count-many l e.count h4))
-
-    module _ (h3 : 1 ≤ e.count) (h4 : e.count ≤ 1024) where
-      pub entry-5 : size < next + rule_size fmt * e.count → Refuses 10 l 0 ≡ entry_check fmt size next least l e
-      entry-5 h5 = sym (entry-rest ∙ then_next _ _ (count-fine l e.count h3 h4) ∙ simp lt-leb)
-
-      pub entry-fine : next + rule_size fmt * e.count ≤ size → passed ≡ entry_check fmt size next least l e
-      entry-fine h5 = sym (entry-rest ∙ then_next _ _ (count-fine l e.count h3 h4) ∙ simp le-leb)
+pub entry-fine : (fmt size next least l : ℕ) (e : Entry) → least ≤ e.id → e.offset ≡ next → 1 ≤ e.count → e.count ≤ 1024 → next + rule_size fmt * e.count ≤ size
+    → passed ≡ entry_check fmt size next least l e
+unfolding entry_check
+entry-fine fmt size next least l e h1 h2 h3 h4 h5 = sym (simp (le-leb, eq-eqb) (then_next _ _ (count-fine l e.count h3 h4)))
 
 -- what an entry that passed says
 pub record EntryFacts (fmt size next least : ℕ) (e : Entry) : Type 0 where

@@ -7,46 +7,48 @@ ghost use Rattle.image_form.specs.Images.{rules_in, format_in, count_in, width_i
 ghost use Rattle.image_check.specs.Checks.{head_check, entry_check, contents_check, bodies_check, image_check};
 
 use image_form::{Entry, byte_at, entry_in, layout, rule_in};
-use rules::{Verdict, check_rule, refused};
+use rules::{Reason, Refusal, check_rule, refused};
 
 // The size, the first four bytes, and room for the contents.
-fn head(b: &[u8]) -> Verdict
+#[tactic(auto, unfolding(crate::specs::Checks::head_check, image_form::specs::Formats::format_check, image_form::specs::Formats::range_check))]
+fn head(b: &[u8]) -> Result<(), Refusal>
     ensures { verdict_reply result ≡ head_check b.now }
 {
     if b.len() < 4 {
-        return refused(10, 0, 0);
+        return refused(Reason::Size, 0, 0);
     }
     if b.len() > 65536 {
-        return refused(10, 0, 0);
+        return refused(Reason::Size, 0, 0);
     }
     let layout = layout(b[0]);
     if !layout.known {
-        return refused(11, 0, 0);
+        return refused(Reason::Format, 0, 0);
     }
     if b[3] != 0 {
-        return refused(11, 0, 0);
+        return refused(Reason::Format, 0, 0);
     }
     let width = byte_at(b, 1);
     if width < 1 {
-        return refused(1, 0, 0);
+        return refused(Reason::Width, 0, 0);
     }
     if width as u32 > layout.places {
-        return refused(1, 0, 0);
+        return refused(Reason::Width, 0, 0);
     }
     let lists = byte_at(b, 2);
     if lists < 1 {
-        return refused(12, 0, 0);
+        return refused(Reason::Lists, 0, 0);
     }
     if lists > 16 {
-        return refused(12, 0, 0);
+        return refused(Reason::Lists, 0, 0);
     }
     if 4 + 8 * lists > b.len() {
-        return refused(12, 0, 0);
+        return refused(Reason::Lists, 0, 0);
     }
-    Verdict::Fine
+    Ok(())
 }
 
 // Contents entry number `list` of an image of `size` bytes: its id is `least` or more, its body starts at byte `next`.
+#[tactic(auto, unfolding(crate::specs::Checks::entry_check, crate::specs::Checks::count_check, rules::specs::Checks::size_check, image_form::specs::Formats::rule_size, image_form::specs::Formats::word_bytes))]
 fn entry_verdict(
     format: u8,
     size: usize,
@@ -54,82 +56,72 @@ fn entry_verdict(
     least: usize,
     list: usize,
     entry: Entry,
-) -> Verdict
+) -> Result<(), Refusal>
     requires { next ≤ 65536 }
     ensures { verdict_reply result ≡ entry_check format size next least list entry }
 {
     if entry.id < least {
-        return refused(13, list, 0);
+        return refused(Reason::Ids, list, 0);
     }
     if entry.offset != next {
-        return refused(14, list, 0);
+        return refused(Reason::Offset, list, 0);
     }
     if entry.count < 1 {
-        return refused(24, list, 0);
+        return refused(Reason::EmptyList, list, 0);
     }
     if entry.count > 1024 {
-        return refused(3, list, 0);
+        return refused(Reason::Rules, list, 0);
     }
     if next + layout(format).rule * entry.count > size {
-        return refused(10, list, 0);
+        return refused(Reason::Size, list, 0);
     }
-    Verdict::Fine
+    Ok(())
 }
 
 // The contents of an image whose head is right. Bodies are counted from the end of the one before and not from the
 // offsets, so that no offset is used before it is known to be right.
-fn contents(b: &[u8]) -> Verdict
+fn contents(b: &[u8]) -> Result<(), Refusal>
     requires { (4 ≤ length b.now) × (length b.now ≤ 65536) × (4 + 8 * count_in b.now ≤ length b.now) }
     ensures { verdict_reply result ≡ contents_check b.now }
 {
     let format = b[0];
     let rule = layout(format).rule;
-    let mut left = byte_at(b, 2);
-    let mut next = 4 + 8 * left;
-    let mut at: usize = 4;
-    let mut least: usize = 0;
-    let mut list: usize = 1;
-    while 0 < left {
-        let entry = entry_in(b, at);
-        let v = entry_verdict(format, b.len(), next, least, list, entry);
-        let Verdict::Fine = v else {
-            return v;
-        };
+    let lists = byte_at(b, 2);
+    let mut next = 4 + 8 * lists;
+    let mut least = 0;
+    for k in 0..lists {
+        let entry = entry_in(b, 4 + 8 * k);
+        entry_verdict(format, b.len(), next, least, k + 1, entry)?;
         next += rule * entry.count;
         least = entry.id + 1;
-        at += 8;
-        list += 1;
-        left -= 1;
     }
     if next != b.len() {
-        return refused(10, 0, 0);
+        return refused(Reason::Size, 0, 0);
     }
-    Verdict::Fine
+    Ok(())
 }
 
 // The `count` rules from byte `from` on, the lower rule first.
-fn rules_at(format: u8, b: &[u8], from: usize, count: usize, width: u32, list: usize) -> Verdict
+fn rules_at(
+    format: u8,
+    b: &[u8],
+    from: usize,
+    count: usize,
+    width: u32,
+    list: usize,
+) -> Result<(), Refusal>
     requires { (from + rule_size format * count ≤ length b.now) × (count < 65536) × (1 ≤ width) × (width ≤ widest) }
     ensures { verdict_reply result ≡ rules_check width list 1 (rules_in format count (drop from b.now)) }
 {
     let rule = layout(format).rule;
-    let mut left = count;
-    let mut at = from;
-    let mut number: usize = 1;
-    while 0 < left {
-        let v = check_rule(width, list, number, rule_in(format, b, at));
-        let Verdict::Fine = v else {
-            return v;
-        };
-        left -= 1;
-        at += rule;
-        number += 1;
+    for i in 0..count {
+        check_rule(width, list, i + 1, rule_in(format, b, from + rule * i))?;
     }
-    Verdict::Fine
+    Ok(())
 }
 
 // The rules of all lists of an image whose head and contents are right.
-fn bodies(b: &[u8]) -> Verdict
+fn bodies(b: &[u8]) -> Result<(), Refusal>
     requires { (4 ≤ length b.now) × (length b.now ≤ 65536) × (1 ≤ width_in b.now) × (width_in b.now ≤ widest)
         × (4 + 8 * count_in b.now + rule_size (format_in b.now) * total (entries_of b.now) ≡ length b.now) }
     ensures { verdict_reply result ≡ bodies_check b.now }
@@ -137,35 +129,21 @@ fn bodies(b: &[u8]) -> Verdict
     let format = b[0];
     let rule = layout(format).rule;
     let width = byte_at(b, 1) as u32;
-    let mut left = byte_at(b, 2);
-    let mut from = 4 + 8 * left;
-    let mut at: usize = 4;
-    let mut list: usize = 1;
-    while 0 < left {
-        let count = entry_in(b, at).count;
-        let v = rules_at(format, b, from, count, width, list);
-        let Verdict::Fine = v else {
-            return v;
-        };
+    let lists = byte_at(b, 2);
+    let mut from = 4 + 8 * lists;
+    for k in 0..lists {
+        let count = entry_in(b, 4 + 8 * k).count;
+        rules_at(format, b, from, count, width, k + 1)?;
         from += rule * count;
-        at += 8;
-        list += 1;
-        left -= 1;
     }
-    Verdict::Fine
+    Ok(())
 }
 
 // Checks an image: its first refusal by the order of the checks.
-pub fn check(image: &[u8]) -> Verdict
+pub fn check(image: &[u8]) -> Result<(), Refusal>
     ensures { verdict_reply result ≡ image_check image.now }
 {
-    let h = head(image);
-    let Verdict::Fine = h else {
-        return h;
-    };
-    let c = contents(image);
-    let Verdict::Fine = c else {
-        return c;
-    };
+    head(image)?;
+    contents(image)?;
     bodies(image)
 }

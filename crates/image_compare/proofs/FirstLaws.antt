@@ -4,6 +4,7 @@ use mathlib.Core.List.{List, []}
 use Prim.Native.Nat.{ℕ, ◌+◌, ◌*◌, ◌≤◌}
 use native.Mathlib.Omega.{arith}
 use lib.ListN.{drop}
+use Rattle.std.specs.Prelude.{is_some}
 use Rattle.rules.specs.Replies.{Reply, Gives, Refuses, passed, ◌then◌}
 use Rattle.rules.proofs.ReplyLaws.{need-yes, Bare}
 use Rattle.image_form.specs.declared.Entry.{Entry}
@@ -47,4 +48,4 @@ pub first-check : (b : List ℕ) (i : ℕ) → i ≡ (entry_from 4 b).id → id_
 unfolding id_check
 first-check b i g =
     nothing-more (image_check b) _ (bare-image b)
-    (λ f. need-yes _ 15 0 0 (ap (λ (k : ℕ). (place_of b k).found) (first-told b i g f) ∙ first_found b f))
+    (λ f. need-yes _ 15 0 0 (ap (λ (k : ℕ). is_some (place_of b k)) (first-told b i g f) ∙ first_found b f))

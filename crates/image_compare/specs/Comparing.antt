@@ -1,10 +1,10 @@
 -- What the comparison of lists of two images replies and leaves: each image's checks in document 01's order, then as the
 -- comparison of the two lists (01, Image; Refusal numbers, 15 and 16; the bench program; the defaults by request 04).
-use Rattle.std.specs.Prelude.{ℕ, List, [], ◌∷◌, eqb, length}
+use Rattle.std.specs.Prelude.{ℕ, List, [], ◌∷◌, eqb, length, Option, Result}
 use Rattle.rules.specs.Rule.{Rule}
 use Rattle.rules.specs.Rules.{answer}
+use Rattle.rules.specs.declared.Refusal.{Refusal}
 use Rattle.rules.specs.Replies.{Reply, need, ◌then◌}
-use Rattle.compare_check.specs.declared.Default.{Default}
 use Rattle.compare_check.specs.Outcomes.{outcome}
 use Rattle.compare_check.specs.Checks.{portion_check, default_check}
 use Rattle.compare.specs.declared.Compared.{Compared}
@@ -43,13 +43,13 @@ compare_first_check old new start a b c d =
 
 -- The promise of comparing two lists by their ids.
 abbrev pub ListsCompared : (old : List ℕ) → (old_id : ℕ) → (new : List ℕ) → (new_id : ℕ) → (start : ℕ)
-    → (first last olds news first' last' olds' news' : List ℕ) → Compared → Type 0
+    → (first last olds news first' last' olds' news' : List ℕ) → Result Compared Refusal → Type 0
 ListsCompared old i new j start first last olds news first' last' olds' news' r =
     PortionDone (compare_lists_check old i new j start (length first) (length last) (length olds) (length news))
     (differences (width_in old) (answer (list_with old i)) (answer (list_with new j)) start) first last olds news first' last' olds' news' r
 
 -- The promise of comparing the first lists.
-abbrev pub FirstCompared : (old new : List ℕ) → (start : ℕ) → (first last olds news first' last' olds' news' : List ℕ) → Compared → Type 0
+abbrev pub FirstCompared : (old new : List ℕ) → (start : ℕ) → (first last olds news first' last' olds' news' : List ℕ) → Result Compared Refusal → Type 0
 FirstCompared old new start first last olds news first' last' olds' news' r =
     PortionDone (compare_first_check old new start (length first) (length last) (length olds) (length news))
     (differences (width_in old) (answer (first_rules old)) (answer (first_rules new)) start) first last olds news first' last' olds' news' r
@@ -57,7 +57,7 @@ FirstCompared old new start first last olds news first' last' olds' news' r =
 -- ---- with a default or none on each side
 
 -- As `compare_lists_check`, with the defaults of the two sides after 16: a default is tested once there are two lists of one width.
-unfoldable pub list_outcomes_check : (old : List ℕ) → (old_id : ℕ) → (old_default : Default) → (new : List ℕ) → (new_id : ℕ) → (new_default : Default)
+unfoldable pub list_outcomes_check : (old : List ℕ) → (old_id : ℕ) → (old_default : Option ℕ) → (new : List ℕ) → (new_id : ℕ) → (new_default : Option ℕ)
     → (start : ℕ) → (firsts lasts olds news : ℕ) → Reply
 list_outcomes_check old i old_default new j new_default start a b c d =
     id_check old i
@@ -68,7 +68,7 @@ list_outcomes_check old i old_default new j new_default start a b c d =
     then portion_check (width_in old) start a b c d
 
 -- As `compare_first_check`, likewise.
-unfoldable pub first_outcomes_check : (old : List ℕ) → (old_default : Default) → (new : List ℕ) → (new_default : Default)
+unfoldable pub first_outcomes_check : (old : List ℕ) → (old_default : Option ℕ) → (new : List ℕ) → (new_default : Option ℕ)
     → (start : ℕ) → (firsts lasts olds news : ℕ) → Reply
 first_outcomes_check old old_default new new_default start a b c d =
     image_check old
@@ -79,16 +79,16 @@ first_outcomes_check old old_default new new_default start a b c d =
     then portion_check (width_in old) start a b c d
 
 -- The promise of comparing the outcomes of two lists by their ids.
-abbrev pub ListOutcomesCompared : (old : List ℕ) → (old_id : ℕ) → (old_default : Default) → (new : List ℕ) → (new_id : ℕ) → (new_default : Default) → (start : ℕ)
-    → (first last olds news first' last' olds' news' : List ℕ) → Compared → Type 0
+abbrev pub ListOutcomesCompared : (old : List ℕ) → (old_id : ℕ) → (old_default : Option ℕ) → (new : List ℕ) → (new_id : ℕ) → (new_default : Option ℕ) → (start : ℕ)
+    → (first last olds news first' last' olds' news' : List ℕ) → Result Compared Refusal → Type 0
 ListOutcomesCompared old i old_default new j new_default start first last olds news first' last' olds' news' r =
     PortionDone (list_outcomes_check old i old_default new j new_default start (length first) (length last) (length olds) (length news))
     (differences (width_in old) (outcome old_default (list_with old i)) (outcome new_default (list_with new j)) start)
     first last olds news first' last' olds' news' r
 
 -- The promise of comparing the outcomes of the first lists.
-abbrev pub FirstOutcomesCompared : (old : List ℕ) → (old_default : Default) → (new : List ℕ) → (new_default : Default) → (start : ℕ)
-    → (first last olds news first' last' olds' news' : List ℕ) → Compared → Type 0
+abbrev pub FirstOutcomesCompared : (old : List ℕ) → (old_default : Option ℕ) → (new : List ℕ) → (new_default : Option ℕ) → (start : ℕ)
+    → (first last olds news first' last' olds' news' : List ℕ) → Result Compared Refusal → Type 0
 FirstOutcomesCompared old old_default new new_default start first last olds news first' last' olds' news' r =
     PortionDone (first_outcomes_check old old_default new new_default start (length first) (length last) (length olds) (length news))
     (differences (width_in old) (outcome old_default (first_rules old)) (outcome new_default (first_rules new)) start)

@@ -19,23 +19,10 @@ module _ (f : ℕ) where
     unfolding word_bytes
     word-one = ap (λ (t : Bool). choose t 8 16) (eq-eqb f 1 e)
 
-    -- the layout of format 1
-    pub layout-one : record { known = true; word = 8; rule = 18; places = 64 } ≡ layout_of f
-    unfolding known word_bytes rule_size most_places
-    layout-one = ap layout_of (sym e)
-
   module _ (e : f ≡ 1 → ⊥) where
     pub word_two : word_bytes f ≡ 16
     unfolding word_bytes
     word_two = ap (λ (t : Bool). choose t 8 16) (ne_eqb f 1 e)
-
-    -- the layout of every other number
-    pub layout-two : record { known = eqb f 2; word = 16; rule = 34; places = 128 } ≡ layout_of f
-    unfolding known word_bytes rule_size most_places
-    layout-two = sym (ap with (ne_eqb f 1 e))
-      where
-        with : Bool → FormatLayout
-        with t = record { known = t || eqb f 2; word = choose t 8 16; rule = choose t 8 16 + choose t 8 16 + 2; places = 8 * choose t 8 16 }
 
   -- a rule is two words and two bytes
   pub rule-words : rule_size f ≡ word_bytes f + word_bytes f + 2
@@ -52,6 +39,15 @@ unfolding word_bytes
 word-least f = within (eqb f 1)
   where
     within : (t : Bool) → 8 ≤ choose t 8 16
+    within true = omega arith
+    within false = omega arith
+
+-- nor more than 16
+pub word-most : (f : ℕ) → word_bytes f ≤ 16
+unfolding word_bytes
+word-most f = within (eqb f 1)
+  where
+    within : (t : Bool) → choose t 8 16 ≤ 16
     within true = omega arith
     within false = omega arith
 

@@ -9,6 +9,7 @@ pub use formats::layout;
 pub use parts::{byte_at, entry_in, rule_in};
 
 // A format's layout: whether there is such a format, the bytes of a word and of a rule, and the greatest width.
+// `known` is no Option around the others: `layout` answers for any byte, and they stand for format 2 where it is false.
 #[derive(Clone, Copy)]
 pub struct FormatLayout {
     pub known: bool,
@@ -18,7 +19,7 @@ pub struct FormatLayout {
 }
 
 // A contents entry: where the body starts, its number of rules, and the list's id.
-#[derive(Clone, Copy)]
+#[derive(Clone, Copy, Default)]
 pub struct Entry {
     pub offset: usize,
     pub count: usize,

@@ -1,56 +1,48 @@
 // The parts of an image, read from any bytes at any place: what the bytes do not hold is read as zeros.
-ghost use Rattle.std.specs.Prelude.{◌≡◌, ◌<◌, get_or};
+ghost use Rattle.std.specs.Prelude.{◌≡◌, ◌+◌, ◌≤◌, ◌<◌, get_or, length, MatchOption};
 ghost use Rattle.rules.specs.Rule.{held};
+ghost use Rattle.image_form.specs.Bytes.{part};
 ghost use Rattle.image_form.specs.Parts.{EntryRead, rule_from};
 
 use crate::Entry;
 use crate::formats::layout;
-use crate::numbers::{rule_here, u16_at, u32_at, wide};
-use rules::Rule;
-use words::Word;
+use crate::numbers::{number, rule_here};
+use rules::{BLANK, Rule};
 
 // The byte at a place, counted from 0, as a number that sums and products have room in; 0 past the end.
 pub fn byte_at(b: &[u8], at: usize) -> usize
     ensures { (result ≡ get_or b.now at 0) × (result < 256) }
 {
-    if at < b.len() {
-        return wide(b[at]);
-    }
-    0
+    usize::from(b.get(at).copied().unwrap_or(0))
+}
+
+// The `count` bytes from byte `at` on, where there are so many.
+fn part(b: &[u8], at: usize, count: usize) -> Option<&[u8]>
+    ensures { MatchOption result (length b.now < at + count)
+        (λ p. (at + count ≤ length b.now) × (p.now ≡ part count at b.now)) }
+{
+    b.get(at..)?.get(..count)
 }
 
 // The contents entry in the 8 bytes from byte `at` on; the entry of zeros where there are not so many.
 pub fn entry_in(b: &[u8], at: usize) -> Entry
     ensures { EntryRead b.now at result }
 {
-    if 8 <= b.len() {
-        if at <= b.len() - 8 {
-            let offset = u32_at(b, at);
-            let count = u16_at(b, at + 4);
-            let id = u16_at(b, at + 6);
-            return Entry { offset, count, id };
-        }
-    }
-    Entry {
-        offset: 0,
-        count: 0,
-        id: 0,
-    }
+    let Some(bytes) = part(b, at, 8) else {
+        return Entry::default();
+    };
+    let offset = number(&bytes[..4]) as usize;
+    let count = number(&bytes[4..6]) as usize;
+    let id = number(&bytes[6..8]) as usize;
+    Entry { offset, count, id }
 }
 
 // The rule in the bytes from byte `at` on, as many as the format has to a rule; the rule of zeros where there are not so many.
 pub fn rule_in(format: u8, b: &[u8], at: usize) -> Rule
     ensures { result ≡ held (rule_from format at b.now) }
 {
-    let size = layout(format).rule;
-    if size <= b.len() {
-        if at <= b.len() - size {
-            return rule_here(format, b, at);
-        }
+    if let Some(bytes) = part(b, at, layout(format).rule) {
+        return rule_here(format, bytes);
     }
-    Rule {
-        care: Word { low: 0, high: 0 },
-        value: Word { low: 0, high: 0 },
-        decision: 0,
-    }
+    BLANK
 }

@@ -7,22 +7,21 @@ use lib.ListN.{length, take, drop, drop_of_length-le}
 use lib.Seq.{drop-cons, drop-length}
 use Rattle.rules.specs.Rule.{Rule}
 use Rattle.rules.specs.Slices.{Lent, decision_of, cares_of, values_of, decisions_of, filled}
-use Rattle.rules.specs.Replies.{Gives, passed, unless_refused}
+use Rattle.rules.specs.Replies.{Gives, passed, unless_refused, number_reply}
 use Rattle.rules.specs.Checks.{lengths_check}
-use Rattle.rules.proofs.ReplyLaws.{then_next, one_value, bare-first}
+use Rattle.rules.proofs.ReplyLaws.{then_next, one_value, bare-first, one-number}
 use Rattle.rules.proofs.CheckLaws.{lengths-yes}
-use Rattle.image.specs.declared.NumberAnswer.{NumberAnswer}
-use Rattle.image.specs.declared.Listed.{Listed}
+use Rattle.std.specs.Prelude.{Result, Ok}
+use Rattle.rules.specs.declared.Refusal.{Refusal}
 use Rattle.image_form.specs.Images.{Named, named, format_in, width_in, count_in, lists_of}
 use Rattle.image_check.specs.Checks.{image_check}
 use Rattle.image.specs.Places.{list_with}
-use Rattle.image.specs.Replies.{number_reply, listed_reply}
+use Rattle.image.specs.Replies.{listed_reply}
 use Rattle.image.specs.Calls.{format_reply, width_reply, count_reply, entry_reply, read_reply, ReadOut}
 use Rattle.image_check.proofs.BareLaws.{bare-image}
 use Rattle.image.proofs.AskLaws.{entry-range}
 use Rattle.image.proofs.BackLaws.{AreBytes, length-lists_of}
 use Rattle.image.proofs.Theorems.{rules_named, list-named}
-use Rattle.image.proofs.Unique.{one-number-answer}
 use Rattle.image_writer.proofs.AgainLaws.{Rising}
 use Rattle.image_writer.proofs.CarryLaws.{image-carried, ids-fit, names_of, counts_of, joined, length-names, length-column}
 use Rattle.image_writer.proofs.ListLaws.{list_at, named-at, entry_gives, read-gives, read-cares, read-values, read-decisions, Laid, columns-lent, laid_none, laid_more}
@@ -31,14 +30,14 @@ use Rattle.image_writer.proofs.ListLaws.{list_at, named-at, entry_gives, read-gi
 -- for that id, and the first places of its slices stand before those of the lists that follow.
 pub data Collected (b : List ℕ) : (k : ℕ) → (ids ns cs vs ds : List ℕ) → Type 0 where
   ended : {k : ℕ} → Collected b k [] [] [] [] []
-  listed : {k id n : ℕ} {c v d c' v' d' ids ns cs vs ds : List ℕ} → listed_reply (Listed.List id n) ≡ entry_reply b k → ReadOut b id c v d (NumberAnswer.Number n) c' v' d'
+  listed : {k id n : ℕ} {c v d c' v' d' ids ns cs vs ds : List ℕ} → listed_reply (Ok (record { id = id; rules = n })) ≡ entry_reply b k → ReadOut b id c v d (Ok n) c' v' d'
       → Collected b (k + 1) ids ns cs vs ds → Collected b k (id ∷ ids) (n ∷ ns) (take (n * 2) c' ++ cs) (take (n * 2) v' ++ vs) (take n d' ++ ds)
 
 -- A whole image as a caller reads it: the answers of `format`, `width` and `count`, and as many lists as `count` says.
 pub record ReadWhole (b : List ℕ) (f w : ℕ) (ids ns cs vs ds : List ℕ) : Type 0 where
-  pub format : number_reply (NumberAnswer.Number f) ≡ format_reply b
-  pub width : number_reply (NumberAnswer.Number w) ≡ width_reply b
-  pub count : number_reply (NumberAnswer.Number (length ids)) ≡ count_reply b
+  pub format : number_reply (Ok f) ≡ format_reply b
+  pub width : number_reply (Ok w) ≡ width_reply b
+  pub count : number_reply (Ok (length ids)) ≡ count_reply b
   pub lists : Collected b 1 ids ns cs vs ds
 
 -- ---- list by list
@@ -64,7 +63,7 @@ record Gathered (b : List ℕ) (k : ℕ) : Type 0 where
 -- an accepted image, whose ids rise
 module _ (b : List ℕ) (f : image_check b ≡ passed) (up : Rising 0 (lists_of b)) where
   -- the list that an entry tells
-  entry-list : (k id n : ℕ) → k < count_in b → listed_reply (Listed.List id n) ≡ entry_reply b (k + 1)
+  entry-list : (k id n : ℕ) → k < count_in b → listed_reply (Ok (record { id = id; rules = n })) ≡ entry_reply b (k + 1)
       → (id ≡ (list_at (lists_of b) k).id) × (n ≡ length (list_at (lists_of b) k).rules) × (rules_named id (lists_of b) ≡ (list_at (lists_of b) k).rules)
   entry-list k id n h e =
       let l : Named = list_at (lists_of b) k in
@@ -86,7 +85,7 @@ module _ (b : List ℕ) (f : image_check b ≡ passed) (up : Rising 0 (lists_of 
 
   -- a list of the image, read into slices that just hold it
   list_read : (k : ℕ) → k < count_in b → (rs : List Rule) → rs ≡ (list_at (lists_of b) k).rules
-      → ReadOut b (list_at (lists_of b) k).id (cares_of rs) (values_of rs) (decisions_of rs) (NumberAnswer.Number (length rs)) (cares_of rs) (values_of rs) (decisions_of rs)
+      → ReadOut b (list_at (lists_of b) k).id (cares_of rs) (values_of rs) (decisions_of rs) (Ok (length rs)) (cares_of rs) (values_of rs) (decisions_of rs)
   list_read k below rs is =
       let id : ℕ = (list_at (lists_of b) k).id in
       let mine : rules_named id (lists_of b) ≡ rs = named-at 0 (lists_of b) k up (omega (arith, length-lists_of b)) ∙ sym is in
@@ -125,15 +124,15 @@ module _ (b : List ℕ) (h : AreBytes b) (f : image_check b ≡ passed) where
 
   -- A list that `entry` tells is not refused: `read` with its id gives the count that `entry` told, where the slices belong together and
   -- have room.
-  pub entry_read : (k id n : ℕ) (c v d c' v' d' : List ℕ) (r : NumberAnswer) → listed_reply (Listed.List id n) ≡ entry_reply b k → lengths_check c v d ≡ passed → n ≤ length d
-      → ReadOut b id c v d r c' v' d' → r ≡ NumberAnswer.Number n
+  pub entry_read : (k id n : ℕ) (c v d c' v' d' : List ℕ) (r : Result ℕ Refusal) → listed_reply (Ok (record { id = id; rules = n })) ≡ entry_reply b k → lengths_check c v d ≡ passed → n ≤ length d
+      → ReadOut b id c v d r c' v' d' → r ≡ Ok n
   entry_read k id n c v d c' v' d' r e l room o =
       let in-range = entry-range b k (id ∷ n ∷ []) (sym e) in
       let same : k ≡ k - 1 + 1 = omega (arith, in-range.0) in
       let below : k - 1 < count_in b = omega (arith, in-range.0, in-range.1) in
       let x = entry-list b f rises (k - 1) id n below (e ∙ ap (entry_reply b) same) in
       let size : length (rules_named id (lists_of b)) ≡ n = ap length x.2 ∙ sym x.1 in
-      one-number-answer r (NumberAnswer.Number n) (o.answer ∙ read-gives b (k - 1) f below id x.0 c v d l (omega (arith, size)) ∙ ap (λ (i : ℕ). Gives (i ∷ [])) size)
+      one-number r (Ok n) (o.answer ∙ read-gives b (k - 1) f below id x.0 c v d l (omega (arith, size)) ∙ ap (λ (i : ℕ). Gives (i ∷ [])) size)
 
   -- Every accepted image can be read whole: what comes out is its format, its width and its lists.
   pub readable : ReadWhole b (format_in b) (width_in b) (names_of (lists_of b)) (counts_of (lists_of b)) (cares_of (joined (lists_of b))) (values_of (joined (lists_of b))) (decisions_of (joined (lists_of b)))

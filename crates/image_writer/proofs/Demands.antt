@@ -12,16 +12,16 @@ use Rattle.rules.specs.Rule.{Rule}
 use Rattle.rules.specs.Slices.{rules_of, Lent, cares_of, values_of, decisions_of, filled}
 use Rattle.rules.specs.Replies.{Reply, Gives, passed, need, ◌then◌, unless_refused}
 use Rattle.rules.specs.Checks.{lengths_check, room_check}
-use Rattle.rules.proofs.ReplyLaws.{then_next, then-second, one_value, Bare, bare-need, bare-then, bare-first}
+use Rattle.rules.proofs.ReplyLaws.{then_next, then-second, one_value, Bare, bare-need, bare-then, bare-first, one-number}
 use Rattle.rules.proofs.SliceLaws.{rules-length, rules-columns, rules-care, rules-value, rules-decision}
-use Rattle.image.specs.declared.NumberAnswer.{NumberAnswer}
+use Rattle.std.specs.Prelude.{Result, Ok}
+use Rattle.rules.specs.declared.Refusal.{Refusal}
 use Rattle.image_form.specs.Formats.{format_check, range_check}
 use Rattle.image_form.specs.Images.{Named, format_in, width_in, count_in, lists_of, bytes_of}
 use Rattle.image_check.specs.Checks.{lists_check, image_check}
 use Rattle.image.specs.Calls.{format_reply, width_reply, count_reply, entry_reply, read_reply, ReadOut}
 use Rattle.image.proofs.BackLaws.{AreBytes}
 use Rattle.image.proofs.Theorems.{rules_named}
-use Rattle.image.proofs.Unique.{one-number-answer}
 use Rattle.image_writer.specs.Writing.{sum_of, lists_from, given, names_check, image_length, given_check, shape_check, write_check, write_reply, Written}
 use Rattle.image_writer.proofs.WriteLaws.{WriteFacts, write-facts, length_cut, rules-given, length-image}
 use Rattle.image_writer.proofs.AgainLaws.{Rising}
@@ -42,7 +42,7 @@ bare-write f w ids ns cs vs ds room =
     (bare-then (need (leb (image_length f (length ids) (length ds)) 65536) 10 0 0) _ (bare-need (leb (image_length f (length ids) (length ds)) room) 7 0 0))))
 
 -- `write` answered with the number n, and left out' in the bytes that held out.
-module _ (f w : ℕ) (ids ns cs vs ds out out' : List ℕ) (n : ℕ) (a : AreIds ids) (W : Written f w ids ns cs vs ds out (NumberAnswer.Number n) out') where
+module _ (f w : ℕ) (ids ns cs vs ds out out' : List ℕ) (n : ℕ) (a : AreIds ids) (W : Written f w ids ns cs vs ds out (Ok n) out') where
   check : write_check f w ids ns cs vs ds (length out) ≡ passed
   unfolding write_reply
   check = bare-first (write_check f w ids ns cs vs ds (length out)) _ (bare-write f w ids ns cs vs ds (length out)) (n ∷ []) (sym W.answer)
@@ -100,7 +100,7 @@ module _ (f w : ℕ) (ids ns cs vs ds out out' : List ℕ) (n : ℕ) (a : AreIds
   )
 
   -- `read`, where it gives a number, gives the number of rules given for that id, and the first places of its slices hold them.
-  pub written-reads : (id : ℕ) (c v d c' v' d' : List ℕ) (m : ℕ) → ReadOut (take n out') id c v d (NumberAnswer.Number m) c' v' d'
+  pub written-reads : (id : ℕ) (c v d c' v' d' : List ℕ) (m : ℕ) → ReadOut (take n out') id c v d (Ok m) c' v' d'
       → (rules_of (take (m * 2) c') (take (m * 2) v') (take m d') ≡ rules_named id (given ids ns cs vs ds)) × (m ≡ length (rules_named id (given ids ns cs vs ds)))
   written-reads id c v d c' v' d' m o = (
     read-rules (take n out') id c v d m c' v' d' o ∙ ap (rules_named id) lists,
@@ -174,22 +174,22 @@ module _ (f w : ℕ) (ids ns cs vs ds out out' : List ℕ) (n : ℕ) (a : AreIds
         (read-gives (take n out') k written-passes below id (sym (ap (λ (x : List Named). (list_at x k).id) lists ∙ at-id)) c v d l)
 
     -- Written, then read: the answer is the count given for the id, and the first places of the slices hold the rules given for it.
-    pub written-list : (c v d c' v' d' : List ℕ) (r : NumberAnswer) → lengths_check c v d ≡ passed → get_or ns k 0 ≤ length d
+    pub written-list : (c v d c' v' d' : List ℕ) (r : Result ℕ Refusal) → lengths_check c v d ≡ passed → get_or ns k 0 ≤ length d
         → ReadOut (take n out') (get_or ids k 0) c v d r c' v' d'
-        → (r ≡ NumberAnswer.Number (get_or ns k 0))
+        → (r ≡ Ok (get_or ns k 0))
         × (rules_of (take (get_or ns k 0 * 2) c') (take (get_or ns k 0 * 2) v') (take (get_or ns k 0) d') ≡ take (get_or ns k 0) (drop (sum_of (take k ns)) (rules_of cs vs ds)))
     written-list c v d c' v' d' r l room o =
         let m : ℕ = get_or ns k 0 in
-        let answer : r ≡ NumberAnswer.Number m =
-        one-number-answer r (NumberAnswer.Number m) (o.answer ∙ written-found c v d l (omega (arith, part-size)) ∙ ap (λ (i : ℕ). Gives (i ∷ [])) part-size) in
-        let told : ReadOut (take n out') (get_or ids k 0) c v d (NumberAnswer.Number m) c' v' d' = rw answer at o in
+        let answer : r ≡ Ok m =
+        one-number r (Ok m) (o.answer ∙ written-found c v d l (omega (arith, part-size)) ∙ ap (λ (i : ℕ). Gives (i ∷ [])) part-size) in
+        let told : ReadOut (take n out') (get_or ids k 0) c v d (Ok m) c' v' d' = rw answer at o in
         (answer, (written-reads (get_or ids k 0) c v d c' v' d' m told).0 ∙ written-part)
 
 -- ---- read, and written again
 
 -- The image again: the answer is its length, the bytes start with it, and later bytes are as they were.
-abbrev pub Again : (b out : List ℕ) → (r : NumberAnswer) → (out' : List ℕ) → Type 0
-Again b out r out' = (r ≡ NumberAnswer.Number (length b)) × (take (length b) out' ≡ b) × (drop (length b) out' ≡ drop (length b) out)
+abbrev pub Again : (b out : List ℕ) → (r : Result ℕ Refusal) → (out' : List ℕ) → Type 0
+Again b out r out' = (r ≡ Ok (length b)) × (take (length b) out' ≡ b) × (drop (length b) out' ≡ drop (length b) out)
 
 -- the writer goes by the rules: slices that belong together and hold the same rules are written alike
 module _ (f w : ℕ) (ids ns c v d cs vs ds out : List ℕ) (l : Lent c v d) (m : Lent cs vs ds) (e : rules_of c v d ≡ rules_of cs vs ds) where
@@ -209,7 +209,7 @@ module _ (f w : ℕ) (ids ns c v d cs vs ds out : List ℕ) (l : Lent c v d) (m 
       then room_check (image_length f (length ids) (q j)) (length out))
       then Gives (image_length f (length ids) (q j) ∷ [])
 
-  same-written : (r : NumberAnswer) (out' : List ℕ) → Written f w ids ns c v d out r out' → Written f w ids ns cs vs ds out r out'
+  same-written : (r : Result ℕ Refusal) (out' : List ℕ) → Written f w ids ns c v d out r out' → Written f w ids ns cs vs ds out r out'
   same-written r out' W =
       record {
         answer = W.answer ∙ same-reply;
@@ -226,17 +226,17 @@ module _ (b : List ℕ) (h : AreBytes b) (f : image_check b ≡ passed) where
       (l.names, l.counts, laid-rules (lists_of b) ids ns cs vs ds l, laid-lent (lists_of b) ids ns cs vs ds l)
 
   -- Where `write` is given the format, the width and the lists of an image, there is no result but the image again.
-  pub rewritten-bytes : (out out' : List ℕ) (r : NumberAnswer) → length b ≤ length out
+  pub rewritten-bytes : (out out' : List ℕ) (r : Result ℕ Refusal) → length b ≤ length out
       → Written (format_in b) (width_in b) (names_of (lists_of b)) (counts_of (lists_of b)) (cares_of (joined (lists_of b))) (values_of (joined (lists_of b))) (decisions_of (joined (lists_of b))) out r out'
       → Again b out r out'
   rewritten-bytes out out' r room W =
       let rs : List Rule = joined (lists_of b) in
-      let e = write-once (format_in b) (width_in b) (names_of (lists_of b)) (counts_of (lists_of b)) (cares_of rs) (values_of rs) (decisions_of rs) out r (NumberAnswer.Number (length b)) out' (filled b out)
+      let e = write-once (format_in b) (width_in b) (names_of (lists_of b)) (counts_of (lists_of b)) (cares_of rs) (values_of rs) (decisions_of rs) out r (Ok (length b)) out' (filled b out)
       W (rewritten b out h f room) in
       (e.0, ap (take (length b)) e.1 ∙ take_at b (drop (length b) out) (length b) refl, ap (drop (length b)) e.1 ∙ drop_at b (drop (length b) out) (length b) refl)
 
   -- The same of any slices that belong together and hold the rules of its lists one after the other.
-  pub rewritten-rules : (cs vs ds out out' : List ℕ) (r : NumberAnswer) → Lent cs vs ds → rules_of cs vs ds ≡ joined (lists_of b) → length b ≤ length out
+  pub rewritten-rules : (cs vs ds out out' : List ℕ) (r : Result ℕ Refusal) → Lent cs vs ds → rules_of cs vs ds ≡ joined (lists_of b) → length b ≤ length out
       → Written (format_in b) (width_in b) (names_of (lists_of b)) (counts_of (lists_of b)) cs vs ds out r out' → Again b out r out'
   rewritten-rules cs vs ds out out' r l e room W =
       let ls : List Named = lists_of b in
@@ -248,7 +248,7 @@ module _ (b : List ℕ) (h : AreBytes b) (f : image_check b ≡ passed) where
 module _ (b : List ℕ) (f w : ℕ) (ids ns cs vs ds : List ℕ) (h : AreBytes b) (R : ReadWhole b f w ids ns cs vs ds) where
   -- Read, then written: the format, the width, the ids and the counts that were told, and slices that belong together and hold the rules
   -- that were read, give the image's bytes.
-  pub rewritten-from-rules : (c v d out out' : List ℕ) (r : NumberAnswer) → Lent c v d → rules_of c v d ≡ rules_of cs vs ds → length b ≤ length out
+  pub rewritten-from-rules : (c v d out out' : List ℕ) (r : Result ℕ Refusal) → Lent c v d → rules_of c v d ≡ rules_of cs vs ds → length b ≤ length out
       → Written f w ids ns c v d out r out' → Again b out r out'
   rewritten-from-rules c v d out out' r l e room W =
       let k = whole-passes b f w ids ns cs vs ds R in
@@ -257,7 +257,7 @@ module _ (b : List ℕ) (f w : ℕ) (ids ns cs vs ds : List ℕ) (h : AreBytes b
       rewritten-rules b h k c v d out out' r l (e ∙ all.2) room (rw (head.0, head.1, all.0, all.1) at W)
 
   -- So do the slices as they were collected.
-  pub rewritten-by-calls : (out out' : List ℕ) (r : NumberAnswer) → length b ≤ length out → Written f w ids ns cs vs ds out r out' → Again b out r out'
+  pub rewritten-by-calls : (out out' : List ℕ) (r : Result ℕ Refusal) → length b ≤ length out → Written f w ids ns cs vs ds out r out' → Again b out r out'
   rewritten-by-calls out out' r room W =
       let all = collected-lists b h (whole-passes b f w ids ns cs vs ds R) ids ns cs vs ds R.lists (whole-head b f w ids ns cs vs ds R).2 in
       rewritten-from-rules cs vs ds out out' r all.3 refl room W

@@ -1,25 +1,27 @@
 -- The writer's checks, and how the lists that it is given follow the slices.
 use mathlib.Core.Path.{◌≡◌, refl, sym, ap, ap₂, ◌∙◌}
-use mathlib.Core.List.{List, [], ◌∷◌}
-use mathlib.Core.Bool.{Bool, true, false, ◌&&◌}
+use mathlib.Core.List.{List, [], ◌∷◌, map}
+use mathlib.Core.Bool.{true, ◌&&◌}
 use Prim.Native.Nat.{ℕ, zero, suc, ◌+◌, ◌-◌, ◌*◌, ◌≤◌, ◌<◌}
 use native.Mathlib.Numerals.{add-one}
 use native.Mathlib.Omega.{arith}
 use lib.Dec.{leb, eqb}
 use lib.ListN.{length, get_or, take, drop, drop_of_length-le}
+use Rattle.std.specs.List.{sum}
+use Rattle.std.proofs.lemmas.List.Sums.{sum-map}
+use Rattle.std.proofs.lemmas.List.Recursion.{is_sum_by}
 use lib.Seq.{drop-cons, drop-drop}
-use borrow.Author.Tests.{eq-eqb, ne_eqb, le-leb, lt-leb, leb-true}
+use borrow.Author.Tests.{eq-eqb, le-leb, lt-leb, leb-true}
 use Rattle.rules.specs.Lists.{All}
 use Rattle.rules.specs.Rule.{Rule}
 use Rattle.rules.specs.declared.Refusal.{Refusal}
-use Rattle.rules.specs.declared.Verdict.{Verdict}
-use Rattle.rules.specs.Replies.{Refuses, passed, need, ◌then◌, verdict_reply}
-use Rattle.rules.specs.Checks.{widest, lengths_check, rules_check, room_check}
+use Rattle.rules.specs.Replies.{Refuses, passed, need, ◌then◌, refusal_reply}
+use Rattle.rules.specs.Checks.{widest, lengths_check, rules_check}
 use Rattle.rules.specs.Calls.{check_list}
 use Rattle.rules.specs.Slices.{zipped, rules_of, Lent}
-use Rattle.words.proofs.Tests.{true-and, and-true, same_test, eqb_yes, yes_eqb}
-use Rattle.rules.proofs.ReplyLaws.{then_next, then-refuses, fine-next, verdict-stop, need-yes, need-no, need-then, need-passed, then-second, Bare, bare-need, bare-then, bare-first}
-use Rattle.rules.proofs.CheckLaws.{list-rules, width-inside, lengths-values, lengths-decisions, lengths-yes, room-yes, room-no}
+use Rattle.words.proofs.Tests.{true-and, and-true, eqb_yes}
+use Rattle.rules.proofs.ReplyLaws.{then_next, then-stop, then-refuses, need-yes, need-no, need-then, need-passed, then-second, Bare, bare-need, bare-then, bare-first}
+use Rattle.rules.proofs.CheckLaws.{list-rules, width-inside, lengths-yes, room-yes}
 use Rattle.rules.proofs.SliceLaws.{rules-take}
 use Rattle.rules.proofs.ZipLaws.{ap₃}
 use Rattle.words.proofs.SliceLaws.{words-drop}
@@ -46,78 +48,22 @@ size-turn fmt ns i n h e =
     let spread : rule_size fmt * (n + rest) ≡ rule_size fmt * n + rule_size fmt * rest = omega arith in
     ap (λ (k : ℕ). rule_size fmt * k) (sum-turn ns i h ∙ ap (λ (k : ℕ). k + rest) (sym e)) ∙ spread
 
-pub sum-end : (ns : List ℕ) (i : ℕ) → length ns ≤ i → sum_of (drop i ns) ≡ 0
+-- the sum that the library makes of the counts
+pub sum_counted : (ns : List ℕ) → sum (map (λ (n : ℕ). n) ns) ≡ sum_of ns
 unfolding sum_of
-sum-end ns i h = ap sum_of (drop_of_length-le ns h)
-
--- counted down: what is left of the rules, and what is left of the counts
-pub sum_over : (ns : List ℕ) (i n left rules : ℕ) → i < length ns → n ≡ get_or ns i 0 → rules + sum_of (drop i ns) ≡ left + sum_of ns → left < n
-    → false ≡ eqb (sum_of ns) rules
-sum_over ns i n left rules h e k l = sym (ne_eqb (sum_of ns) rules (λ p. omega (arith, sum-turn ns i h)))
-
-pub sum-all : (ns : List ℕ) (i left rules : ℕ) → length ns ≤ i → rules + sum_of (drop i ns) ≡ left + sum_of ns → eqb left 0 ≡ eqb (sum_of ns) rules
-sum-all ns i left rules h k =
-    same_test (eqb left 0) (eqb (sum_of ns) rules)
-    (λ e. yes_eqb (sum_of ns) rules (omega (arith, eqb_yes left 0 e, sum-end ns i h)))
-    (λ e. yes_eqb left 0 (omega (arith, eqb_yes (sum_of ns) rules e, sum-end ns i h)))
+sum_counted ns = sum-map (λ (n : ℕ). n) ns ∙ sym (is_sum_by sum_of (λ (n : ℕ). n) refl (λ n ns. refl) ns)
 
 -- ---- refusal 2
 
-module _ (ids ns cs vs ds : List ℕ) where
-  pub given-ids : (length ids ≡ length ns → ⊥) → Refuses 2 0 0 ≡ given_check ids ns cs vs ds
-  unfolding given_check
-  given-ids n = sym (then-refuses _ _ (need-no _ 2 0 0 (ne_eqb (length ids) (length ns) n)))
-
-  module _ (l : length ids ≡ length ns) where
-    given-lists : given_check ids ns cs vs ds ≡ (lengths_check cs vs ds then need (eqb (sum_of ns) (length ds)) 2 0 0)
-    unfolding given_check
-    given-lists = then_next _ _ (need-yes _ 2 0 0 (eq-eqb (length ids) (length ns) l))
-
-    pub given-values : (length cs ≡ length vs → ⊥) → Refuses 2 0 0 ≡ given_check ids ns cs vs ds
-    given-values n = sym (given-lists ∙ then-refuses _ _ (lengths-values cs vs ds n))
-
-    pub given-decisions : length cs ≡ length vs → (length cs ≡ length ds * 2 → ⊥) → Refuses 2 0 0 ≡ given_check ids ns cs vs ds
-    given-decisions e n = sym (given-lists ∙ then-refuses _ _ (lengths-decisions cs vs ds e n))
-
-    module _ (e : length cs ≡ length vs) (f : length cs ≡ length ds * 2) (t : Bool) (a : t ≡ eqb (sum_of ns) (length ds)) where
-      pub given-fine : t ≡ true → passed ≡ given_check ids ns cs vs ds
-      given-fine b = sym (given-lists ∙ then_next _ _ (lengths-yes cs vs ds e f) ∙ need-yes _ 2 0 0 (sym a ∙ b))
-
-      pub given-sum : t ≡ false → Refuses 2 0 0 ≡ given_check ids ns cs vs ds
-      given-sum b = sym (given-lists ∙ then_next _ _ (lengths-yes cs vs ds e f) ∙ need-no _ 2 0 0 (sym a ∙ b))
+-- what has equally long slices and the right sum passes
+given-fine : (ids ns cs vs ds : List ℕ) → length ids ≡ length ns → length cs ≡ length vs → length cs ≡ length ds * 2 → sum_of ns ≡ length ds
+    → given_check ids ns cs vs ds ≡ passed
+unfolding given_check
+given-fine ids ns cs vs ds l e f s =
+    then_next _ _ (need-yes _ 2 0 0 (eq-eqb (length ids) (length ns) l)) ∙ then_next _ _ (lengths-yes cs vs ds e f)
+    ∙ need-yes _ 2 0 0 (eq-eqb (sum_of ns) (length ds) s)
 
 -- ---- refusals 11, 1, 2 and 12
-
-module _ (fmt w : ℕ) (ids ns cs vs ds : List ℕ) where
-  pub shape-format : known fmt ≡ false → Refuses 11 0 0 ≡ shape_check fmt w ids ns cs vs ds
-  unfolding shape_check format_check
-  shape-format e = simp e
-
-  module _ (e : known fmt ≡ true) where
-    pub shape-low : w < 1 → Refuses 1 0 0 ≡ shape_check fmt w ids ns cs vs ds
-    unfolding shape_check format_check range_check
-    shape-low h = simp (e, lt-leb)
-
-    pub shape-high : 1 ≤ w → most_places fmt < w → Refuses 1 0 0 ≡ shape_check fmt w ids ns cs vs ds
-    unfolding shape_check format_check range_check
-    shape-high h k = simp (e, le-leb, lt-leb)
-
-    module _ (h : 1 ≤ w) (k : w ≤ most_places fmt) (v : Verdict) (p : verdict_reply v ≡ given_check ids ns cs vs ds) where
-      shape-width : shape_check fmt w ids ns cs vs ds ≡ (given_check ids ns cs vs ds then need (leb 1 (length ids)) 12 0 0 then need (leb (length ids) 16) 12 0 0)
-      unfolding shape_check format_check range_check
-      shape-width = then_next _ _ (need-yes _ 11 0 0 e) ∙ then_next _ _ (need-yes _ 1 0 0 (true-and (le-leb 1 w h) (le-leb w (most_places fmt) k)))
-
-      pub shape-given : {x : Refusal} → v ≡ Verdict.Refused x → verdict_reply v ≡ shape_check fmt w ids ns cs vs ds
-      shape-given q = sym (shape-width ∙ verdict-stop v _ _ p q)
-
-      pub shape-none : v ≡ Verdict.Fine → length ids < 1 → Refuses 12 0 0 ≡ shape_check fmt w ids ns cs vs ds
-      shape-none q l = sym (shape-width ∙ fine-next v _ _ p q ∙ simp lt-leb)
-
-      pub shape-many : v ≡ Verdict.Fine → 1 ≤ length ids → 16 < length ids → Refuses 12 0 0 ≡ shape_check fmt w ids ns cs vs ds
-      shape-many q l m = sym (shape-width ∙ fine-next v _ _ p q ∙ simp (le-leb, lt-leb))
-
-      pub shape-fine : v ≡ Verdict.Fine → 1 ≤ length ids → length ids ≤ 16 → passed ≡ shape_check fmt w ids ns cs vs ds
-      shape-fine q l m = sym (shape-width ∙ fine-next v _ _ p q ∙ simp le-leb)
 
 -- what passing them says
 pub record Shape (fmt w : ℕ) (ids ns cs vs ds : List ℕ) : Type 0 where
@@ -173,10 +119,11 @@ shape-facts fmt w ids ns cs vs ds f =
 
 -- what has all that passes them
 pub shape-passes : (fmt w : ℕ) (ids ns cs vs ds : List ℕ) → Shape fmt w ids ns cs vs ds → shape_check fmt w ids ns cs vs ds ≡ passed
+unfolding shape_check format_check range_check
 shape-passes fmt w ids ns cs vs ds s =
-    let sums : true ≡ eqb (sum_of ns) (length ds) = sym (eq-eqb (sum_of ns) (length ds) s.sums) in
-    let g : passed ≡ given_check ids ns cs vs ds = given-fine ids ns cs vs ds (sym s.paired) (sym s.lent.values) (sym s.lent.decisions) true sums refl in
-    sym (shape-fine fmt w ids ns cs vs ds s.format s.least s.most Verdict.Fine g refl s.some s.few)
+    then_next _ _ (need-yes _ 11 0 0 s.format) ∙ then_next _ _ (need-yes _ 1 0 0 (true-and (le-leb 1 w s.least) (le-leb w (most_places fmt) s.most)))
+    ∙ then_next _ _ (given-fine ids ns cs vs ds (sym s.paired) (sym s.lent.values) (sym s.lent.decisions) s.sums)
+    ∙ then_next _ _ (need-yes _ 12 0 0 (le-leb 1 (length ids) s.some)) ∙ need-yes _ 12 0 0 (le-leb (length ids) 16 s.few)
 
 -- ---- refusals 13, 24 and 3
 
@@ -303,20 +250,21 @@ module _ (w i from n : ℕ) (ids ns : List ℕ) (rs : List Rule) (h : i < length
       ∙ ap (λ (k : List Rule). rules_check w (i + 1) 1 (take n (drop from rs)) then lists_check w (i + 1 + 1) (lists_from (drop (i + 1) ids) (drop (i + 1) ns) k)) (drop-drop n from rs)
 
 module _ (w i from n end first last : ℕ) (ids ns cs vs ds : List ℕ) (h : i < length ids) (l : length ns ≡ length ids) (e : n ≡ get_or ns i 0) (low : 1 ≤ w) (high : w ≤ widest) (lent : Lent cs vs ds)
-    (fits : from + n ≤ length ds) (small : n ≤ 1024) (is : end - from ≡ n) (at : first ≡ from * 2) (long : last - first ≡ n * 2) (v : Verdict)
-    (p : verdict_reply v ≡ check_list w (i + 1) (take (last - first) (drop first cs)) (take (last - first) (drop first vs)) (take (end - from) (drop from ds))) where
-  told : verdict_reply v ≡ rules_check w (i + 1) 1 (take n (drop from (rules_of cs vs ds)))
+    (fits : from + n ≤ length ds) (small : n ≤ 1024) (is : end - from ≡ n) (at : first ≡ from * 2) (long : last - first ≡ n * 2) where
+  told : check_list w (i + 1) (take (last - first) (drop first cs)) (take (last - first) (drop first vs)) (take (end - from) (drop from ds))
+      ≡ rules_check w (i + 1) 1 (take n (drop from (rules_of cs vs ds)))
   told =
-      p ∙ ap (λ (k : ℕ). check_list w (i + 1) (part (last - first) first cs) (part (last - first) first vs) (part k from ds)) is
+      ap (λ (k : ℕ). check_list w (i + 1) (part (last - first) first cs) (part (last - first) first vs) (part k from ds)) is
       ∙ list-part w (i + 1) from n first (last - first) cs vs ds low high lent fits small at long
 
-  pub cut-stop : {x : Refusal} → v ≡ Verdict.Refused x → lists_check w (i + 1) (lists_from (drop i ids) (drop i ns) (drop from (rules_of cs vs ds))) ≡ verdict_reply v
-  cut-stop q = cut-turn w i from n ids ns (rules_of cs vs ds) h l e ∙ verdict-stop v _ _ told q
+  pub cut-stop : (x : Refusal) → refusal_reply x ≡ check_list w (i + 1) (take (last - first) (drop first cs)) (take (last - first) (drop first vs)) (take (end - from) (drop from ds))
+      → lists_check w (i + 1) (lists_from (drop i ids) (drop i ns) (drop from (rules_of cs vs ds))) ≡ refusal_reply x
+  cut-stop x p = cut-turn w i from n ids ns (rules_of cs vs ds) h l e ∙ then-stop _ _ x (sym (p ∙ told))
 
-  pub cut-pass : end ≡ from + n → v ≡ Verdict.Fine
+  pub cut-pass : end ≡ from + n → passed ≡ check_list w (i + 1) (take (last - first) (drop first cs)) (take (last - first) (drop first vs)) (take (end - from) (drop from ds))
       → lists_check w (i + 1) (lists_from (drop i ids) (drop i ns) (drop from (rules_of cs vs ds))) ≡ lists_check w (i + 1 + 1) (lists_from (drop (i + 1) ids) (drop (i + 1) ns) (drop end (rules_of cs vs ds)))
-  cut-pass z q =
-      cut-turn w i from n ids ns (rules_of cs vs ds) h l e ∙ fine-next v _ _ told q
+  cut-pass z p =
+      cut-turn w i from n ids ns (rules_of cs vs ds) h l e ∙ then_next _ _ (sym (p ∙ told))
       ∙ ap (λ (k : ℕ). lists_check w (i + 1 + 1) (lists_from (drop (i + 1) ids) (drop (i + 1) ns) (drop k (rules_of cs vs ds)))) (sym z)
 
 pub cut-end : (w i : ℕ) (ids ns : List ℕ) (rs : List Rule) → length ids ≤ i → lists_check w (i + 1) (lists_from (drop i ids) (drop i ns) rs) ≡ passed
@@ -325,33 +273,9 @@ cut-end w i ids ns rs h = ap (λ (k : List ℕ). lists_check w (i + 1) (lists_fr
 
 -- ---- all checks
 
-module _ (fmt w : ℕ) (ids ns cs vs ds : List ℕ) (room : ℕ) (s : Verdict) (ps : verdict_reply s ≡ shape_check fmt w ids ns cs vs ds) where
-  pub write_shape : {x : Refusal} → s ≡ Verdict.Refused x → verdict_reply s ≡ write_check fmt w ids ns cs vs ds room
-  unfolding write_check
-  write_shape q = sym (verdict-stop s _ _ ps q)
-
-  module _ (fs : s ≡ Verdict.Fine) (n : Verdict) (pn : verdict_reply n ≡ names_check 1 0 ids ns) where
-    pub write-names : {x : Refusal} → n ≡ Verdict.Refused x → verdict_reply n ≡ write_check fmt w ids ns cs vs ds room
-    unfolding write_check
-    write-names q = sym (fine-next s _ _ ps fs ∙ verdict-stop n _ _ pn q)
-
-    module _ (fn : n ≡ Verdict.Fine) (l : Verdict) (pl : verdict_reply l ≡ lists_check w 1 (given ids ns cs vs ds)) where
-      pub write-lists : {x : Refusal} → l ≡ Verdict.Refused x → verdict_reply l ≡ write_check fmt w ids ns cs vs ds room
-      unfolding write_check
-      write-lists q = sym (fine-next s _ _ ps fs ∙ fine-next n _ _ pn fn ∙ verdict-stop l _ _ pl q)
-
-      module _ (fl : l ≡ Verdict.Fine) where
-        write-rest : write_check fmt w ids ns cs vs ds room
-            ≡ (need (leb (image_length fmt (length ids) (length ds)) 65536) 10 0 0 then room_check (image_length fmt (length ids) (length ds)) room)
-        unfolding write_check
-        write-rest = fine-next s _ _ ps fs ∙ fine-next n _ _ pn fn ∙ fine-next l _ _ pl fl
-
-        pub write-ten : 65536 < image_length fmt (length ids) (length ds) → Refuses 10 0 0 ≡ write_check fmt w ids ns cs vs ds room
-        write-ten h = sym (write-rest ∙ then-refuses _ _ (need-no _ 10 0 0 (lt-leb (image_length fmt (length ids) (length ds)) 65536 h)))
-
-        module _ (h : image_length fmt (length ids) (length ds) ≤ 65536) where
-          pub write-seven : room < image_length fmt (length ids) (length ds) → Refuses 7 0 0 ≡ write_check fmt w ids ns cs vs ds room
-          write-seven k = sym (write-rest ∙ then_next _ _ (need-yes _ 10 0 0 (le-leb (image_length fmt (length ids) (length ds)) 65536 h)) ∙ room-no _ _ k)
-
-          pub write-fine : image_length fmt (length ids) (length ds) ≤ room → passed ≡ write_check fmt w ids ns cs vs ds room
-          write-fine k = sym (write-rest ∙ then_next _ _ (need-yes _ 10 0 0 (le-leb (image_length fmt (length ids) (length ds)) 65536 h)) ∙ room-yes _ _ k)
+pub write-fine : (fmt w : ℕ) (ids ns cs vs ds : List ℕ) (room : ℕ) → shape_check fmt w ids ns cs vs ds ≡ passed → names_check 1 0 ids ns ≡ passed
+    → lists_check w 1 (given ids ns cs vs ds) ≡ passed → image_length fmt (length ids) (length ds) ≤ 65536 → image_length fmt (length ids) (length ds) ≤ room
+    → write_check fmt w ids ns cs vs ds room ≡ passed
+unfolding write_check
+write-fine fmt w ids ns cs vs ds room s n l h k =
+    then_next _ _ s ∙ then_next _ _ n ∙ then_next _ _ l ∙ then_next _ _ (need-yes _ 10 0 0 (le-leb (image_length fmt (length ids) (length ds)) 65536 h)) ∙ room-yes _ _ k

@@ -17,12 +17,12 @@ use Rattle.rules.specs.Checks.{lengths_check}
 use Rattle.rules.proofs.ReplyLaws.{then_next, need-yes}
 use Rattle.rules.proofs.CheckLaws.{room-yes}
 use Rattle.rules.proofs.SliceLaws.{rules-columns}
-use Rattle.image.specs.declared.NumberAnswer.{NumberAnswer}
+use Rattle.std.specs.Prelude.{Some, is_some, Ok}
 use Rattle.image_form.specs.Formats.{rule_size}
 use Rattle.image_form.specs.declared.Entry.{Entry}
 use Rattle.image_form.specs.Images.{entry_with, Named, named, lists_in, format_in, count_in, entries_of, lists_of}
 use Rattle.image_check.specs.Checks.{image_check}
-use Rattle.image.specs.Places.{place_in, place_at, pick_place, place_of, list_with}
+use Rattle.image.specs.Places.{place_in, place_at, pick_place, place_of, count_at, list_with}
 use Rattle.image.specs.Calls.{entry_reply, id_check, read_reply, ReadOut}
 use Rattle.image.proofs.SeekLaws.{length-entries, length-rules_in}
 use Rattle.image.proofs.PassedLaws.{length-with}
@@ -63,12 +63,12 @@ list-entry fmt [] s k = (refl, refl)
 list-entry fmt (e ∷ es) s zero = (refl, length-rules_in fmt e.count s)
 list-entry fmt (e ∷ es) s (suc k) = list-entry fmt es (drop (rule_size fmt * e.count) s) k
 
-picked : (t : Bool) (fmt id next count from : ℕ) (es : List Entry) → (place_in fmt id from es).found ≡ true
-    → (pick_place t (place_at true next count) (place_in fmt id from es)).found ≡ true
+picked : (t : Bool) (fmt id next count from : ℕ) (es : List Entry) → is_some (place_in fmt id from es) ≡ true
+    → is_some (pick_place t (Some (place_at next count)) (place_in fmt id from es)) ≡ true
 picked true fmt id next count from es e = refl
 picked false fmt id next count from es e = e
 
-place_found : (fmt next : ℕ) (es : List Entry) (k : ℕ) → k < length es → (place_in fmt (get_or es k (entry_with 0 0 0)).id next es).found ≡ true
+place_found : (fmt next : ℕ) (es : List Entry) (k : ℕ) → k < length es → is_some (place_in fmt (get_or es k (entry_with 0 0 0)).id next es) ≡ true
 unfolding place_in
 place_found fmt next [] k h = absurd (omega arith)
 place_found fmt next (e ∷ es) zero h = simp (eq-eqb e.id e.id refl)
@@ -82,10 +82,10 @@ module _ (b : List ℕ) (k : ℕ) where
   unfolding lists_of
   at_entry = list-entry (format_in b) (entries_of b) (drop (4 + 8 * count_in b) b) k
 
-  at-found : k < count_in b → (place_of b (list_at (lists_of b) k).id).found ≡ true
+  at-found : k < count_in b → is_some (place_of b (list_at (lists_of b) k).id) ≡ true
   unfolding place_of entries_of
   at-found h =
-      ap (λ (i : ℕ). (place_of b i).found) at_entry.0
+      ap (λ (i : ℕ). is_some (place_of b i)) at_entry.0
       ∙ place_found (format_in b) (4 + 8 * count_in b) (entries_of b) k (omega (arith, length-entries (count_in b) (drop 4 b)))
 
   module _ (f : image_check b ≡ passed) (h : k < count_in b) where
@@ -105,17 +105,17 @@ module _ (b : List ℕ) (k : ℕ) where
         → read_reply b id c v d ≡ Gives (length (rules_named id (lists_of b)) ∷ [])
     unfolding read_reply id_check
     read-gives id e c v d l room =
-        let size : (place_of b id).count ≡ length (rules_named id (lists_of b)) = sym (length-with b id) ∙ ap length (list-named b id) in
-        then_next _ _ (then_next _ _ f ∙ need-yes _ 15 0 0 (ap (λ (i : ℕ). (place_of b i).found) e ∙ at-found h))
+        let size : count_at (place_of b id) ≡ length (rules_named id (lists_of b)) = sym (length-with b id) ∙ ap length (list-named b id) in
+        then_next _ _ (then_next _ _ f ∙ need-yes _ 15 0 0 (ap (λ (i : ℕ). is_some (place_of b i)) e ∙ at-found h))
         ∙ then_next _ _ l
         ∙ then_next _ _ (room-yes _ _ (omega arith))
         ∙ ap (λ (n : ℕ). Gives (n ∷ [])) size
 
 -- ---- what is in the slices after a read that came out
 
-module _ (b : List ℕ) (id : ℕ) (c v d : List ℕ) (n : ℕ) (c' v' d' : List ℕ) (o : ReadOut b id c v d (NumberAnswer.Number n) c' v' d') where
+module _ (b : List ℕ) (id : ℕ) (c v d : List ℕ) (n : ℕ) (c' v' d' : List ℕ) (o : ReadOut b id c v d (Ok n) c' v' d') where
   held : Held n (list_with b id) c' v' d'
-  held = read_held b id c v d (NumberAnswer.Number n) c' v' d' o n refl
+  held = read_held b id c v d (Ok n) c' v' d' o n refl
 
   -- the answer is the number of rules
   pub read-size : length (rules_named id (lists_of b)) ≡ n

@@ -2,11 +2,12 @@
 use mathlib.Core.Path.{◌≡◌, refl, sym, ap, ap₂, ◌∙◌}
 use mathlib.Core.List.{List, [], ◌∷◌, ◌++◌, append_assoc}
 use Prim.Native.Nat.{ℕ, zero, suc, ◌+◌, ◌-◌, ◌*◌, ◌/◌, ◌%◌, ◌^◌, ◌≤◌, ◌<◌}
-use native.Mathlib.Nat.{pow-suc, mul_assoc, div-div-eq-div-mul, div-one, zero-add, suc-add, pow-succ', add-zero, not-suc-le-zero}
+use native.Mathlib.Nat.{pow-suc, mul_assoc, div-div-eq-div-mul, div-one, zero-add, suc-add, pow-succ', add-zero}
 use native.Mathlib.Numerals.{add-one}
 use native.Mathlib.Omega.{arith}
-use lib.ListN.{length, get_or, set, take, drop, length-append, length-set, take-append-drop, drop_of_length-le, length-drop}
+use lib.ListN.{length, get_or, set, take, drop, length-append, take-append-drop, drop_of_length-le, length-drop}
 use lib.Seq.{drop-drop, drop-cons, take_at, drop_at, set_split, length-take-le}
+use Rattle.std.specs.Int.{Width, byte_len, to_le_bytes, bytes_low_first}
 use Rattle.words.specs.declared.Word.{Word}
 use Rattle.words.specs.Halves.{num}
 use Rattle.words.proofs.SeamLaws.{seam-high}
@@ -20,7 +21,7 @@ use Rattle.image_form.specs.declared.Entry.{Entry}
 use Rattle.image_form.specs.Images.{entry_with, entry_bytes, rule_bytes, rules_bytes, contents_bytes}
 use Rattle.image_writer.specs.Writing.{}
 use Rattle.image_writer.specs.Putting.{over, entries_given}
-use Rattle.image_form.proofs.FormatLaws.{word-one, word_two, rule-words, times_down}
+use Rattle.image_form.proofs.FormatLaws.{word-one, word_two, rule-words, times_down, times-left}
 
 pub length-bytes : (n x : ℕ) → length (bytes n x) ≡ n
 unfolding bytes
@@ -71,19 +72,24 @@ bytes-split (suc n) m x =
 
 -- ---- numbers
 
-pub put_two : (s : List ℕ) (p x : ℕ) → p + 2 ≤ length s → set (set s p (x % 256)) (p + 1) (x / 256 % 256) ≡ over s p (bytes 2 x)
+-- the library's bytes of a number, from byte i on
+library-bytes : (i k n : ℕ) → bytes_low_first i k n ≡ bytes k (n / 256 ^ i)
 unfolding bytes
-put_two s p x h =
-    over-one (set s p (x % 256)) (p + 1) (x / 256 % 256) (simp length-set (omega arith))
-    ∙ ap (λ (t : List ℕ). over t (p + 1) (x / 256 % 256 ∷ [])) (over-one s p (x % 256) (omega arith))
-    ∙ over-over s p (p + 1) (x % 256 ∷ []) (x / 256 % 256 ∷ []) refl (omega arith)
+library-bytes i zero n = refl
+library-bytes zero (suc k) n =
+    let e : n / 256 ^ 0 ≡ n = div-one n in
+    ap₂ (λ (x : ℕ) (xs : List ℕ). x % 256 ∷ xs) (sym e) (library-bytes 1 k n ∙ ap (λ (x : ℕ). bytes k (x / 256)) (sym e))
+library-bytes (suc i) (suc k) n =
+    ap (λ (xs : List ℕ). n / 256 ^ suc i % 256 ∷ xs)
+    (library-bytes (suc (suc i)) k n ∙ ap (bytes k) (ap (λ (x : ℕ). n / x) (pow-suc 256 (suc i)) ∙ sym (div-div-eq-div-mul n (256 ^ suc i) 256)))
 
-pub put_both : (n m : ℕ) (s s₁ s₂ : List ℕ) (p x : ℕ) → p + (n + m) ≤ length s → s₁ ≡ over s p (bytes n x) → s₂ ≡ over s₁ (p + n) (bytes m (x / 256 ^ n))
-    → s₂ ≡ over s p (bytes (n + m) x)
-put_both n m s s₁ s₂ p x h e₁ e₂ =
-    e₂ ∙ ap (λ (t : List ℕ). over t (p + n) (bytes m (x / 256 ^ n))) e₁
-    ∙ over-over s p (p + n) (bytes n x) (bytes m (x / 256 ^ n)) (omega (arith, length-bytes n x)) (omega (arith, length-bytes n x, length-bytes m (x / 256 ^ n)))
-    ∙ ap (over s p) (sym (bytes-split n m x))
+-- the library's bytes of a number of a type are those of the number
+pub le-bytes : (w : Width) (n : ℕ) → to_le_bytes w n ≡ bytes (byte_len w) n
+le-bytes w n = library-bytes 0 (byte_len w) n ∙ ap (bytes (byte_len w)) (div-one n)
+
+-- a number of a type, put as the library's bytes
+pub put-number : (w : Width) (s : List ℕ) (p n : ℕ) (l t : List ℕ) → t ≡ over s p l → l ≡ to_le_bytes w n → t ≡ over s p (bytes (byte_len w) n)
+put-number w s p n l t e f = e ∙ ap (over s p) (f ∙ le-bytes w n)
 
 -- three numbers in a row: a rule, or an entry
 pub put_three : (i j k : ℕ) (s s₁ s₂ s₃ : List ℕ) (p q r a b c : ℕ) → p + (i + j + k) ≤ length s → q ≡ p + i → r ≡ p + (i + j)
@@ -139,13 +145,6 @@ module _ (fmt : ℕ) (s : List ℕ) (p : ℕ) (w : Word) (s₁ : List ℕ) (e₁
       ∙ over-over s p (p + 8) (bytes 8 w.low) (bytes 8 w.high) (omega arith) (omega arith)
       ∙ ap (over s p) (sym (ap (λ (n : ℕ). bytes n (num w)) (word_two fmt e) ∙ bytes-both w small))
 
-pub put_four : (s : List ℕ) (f w n : ℕ) → 4 ≤ length s → set (set (set (set s 0 f) 1 w) 2 n) 3 0 ≡ over s 0 (f ∷ w ∷ n ∷ 0 ∷ [])
-put_four [] f w n h = absurd (not-suc-le-zero h)
-put_four (x ∷ []) f w n h = absurd (omega arith)
-put_four (x ∷ y ∷ []) f w n h = absurd (omega arith)
-put_four (x ∷ y ∷ z ∷ []) f w n h = absurd (omega arith)
-put_four (x ∷ y ∷ z ∷ u ∷ b) f w n h = refl
-
 -- ---- rules
 
 length-rule : (fmt : ℕ) (x : Rule) → length (rule_bytes fmt x) ≡ rule_size fmt
@@ -159,19 +158,21 @@ length-rules_bytes fmt [] = omega arith
 length-rules_bytes fmt (x ∷ xs) = length-append (rule_bytes fmt x) (rules_bytes fmt xs) ∙ omega (arith, length-rule fmt x, length-rules_bytes fmt xs)
 
 -- a turn: what is left to write, written, gives the same
-pub rules-put : (fmt : ℕ) (s t : List ℕ) (rs : List Rule) (i p step : ℕ) (r : Held) → i < length rs → p + rule_size fmt * (length rs - i) ≤ length s
-    → r ≡ held (rule_at rs i) → t ≡ over s p (rule_bytes fmt (rule_of r)) → step ≡ rule_size fmt
-    → over s p (rules_bytes fmt (drop i rs)) ≡ over t (p + step) (rules_bytes fmt (drop (i + 1) rs))
+pub rules-put : (fmt : ℕ) (s t : List ℕ) (rs : List Rule) (i from at : ℕ) (r : Held) → i < length rs → from + rule_size fmt * length rs ≤ length s
+    → r ≡ held (rule_at rs i) → t ≡ over s at (rule_bytes fmt (rule_of r)) → at ≡ from + rule_size fmt * i
+    → over s (from + rule_size fmt * i) (rules_bytes fmt (drop i rs)) ≡ over t (from + rule_size fmt * (i + 1)) (rules_bytes fmt (drop (i + 1) rs))
 unfolding rules_bytes
-rules-put fmt s t rs i p step r h fits e q z =
+rules-put fmt s t rs i from at r h fits e q z =
     let x : Rule = rule_at rs i in
+    let p : ℕ = from + rule_size fmt * i in
     let m : List ℕ = rules_bytes fmt (drop (i + 1) rs) in
     let k : length m ≡ rule_size fmt * (length rs - (i + 1)) = length-rules_bytes fmt (drop (i + 1) rs) ∙ ap (λ (n : ℕ). rule_size fmt * n) (length-drop (i + 1) rs) in
     let d = times_down (rule_size fmt) (length rs) i h in
+    let n = times-left (rule_size fmt) (length rs) i (omega arith) in
     ap (λ (l : List Rule). over s p (rules_bytes fmt l)) (drop-cons rs i blank h)
     ∙ ap (λ (n : ℕ). over s p (rule_bytes fmt x ++ rules_bytes fmt (drop n rs))) (sym (add-one i))
-    ∙ sym (ap (λ (u : List ℕ). over u (p + step) m) (q ∙ ap (λ (y : Rule). over s p (rule_bytes fmt y)) (told e))
-    ∙ over-over s p (p + step) (rule_bytes fmt x) m (omega (arith, length-rule fmt x)) (omega (arith, length-rule fmt x)))
+    ∙ sym (ap (λ (u : List ℕ). over u (from + rule_size fmt * (i + 1)) m) (q ∙ (λ j. over s (z j) (rule_bytes fmt (told e j))))
+    ∙ over-over s p (from + rule_size fmt * (i + 1)) (rule_bytes fmt x) m (omega (arith, length-rule fmt x)) (omega (arith, length-rule fmt x)))
 
 pub rules-put-end : (fmt : ℕ) (s : List ℕ) (rs : List Rule) (i p : ℕ) → length rs ≤ i → over s p (rules_bytes fmt (drop i rs)) ≡ s
 unfolding rules_bytes
@@ -193,21 +194,21 @@ length-given fmt next [] ns h = refl
 length-given fmt next (i ∷ is) [] h = absurd (omega arith)
 length-given fmt next (i ∷ is) (n ∷ ns) h = ap suc (length-given fmt (next + rule_size fmt * n) is ns (omega arith))
 
-pub entries-put : (fmt : ℕ) (s t ids ns : List ℕ) (i p next n k step : ℕ) → i < length ids → length ns ≡ length ids → p + 8 * (length ids - i) ≤ length s
-    → n ≡ get_or ns i 0 → k ≡ get_or ids i 0 → t ≡ over s p (entry_bytes (entry_with next n k)) → step ≡ rule_size fmt * n
-    → over s p (contents_bytes (entries_given fmt next (drop i ids) (drop i ns))) ≡ over t (p + 8) (contents_bytes (entries_given fmt (next + step) (drop (i + 1) ids) (drop (i + 1) ns)))
+pub entries-put : (fmt : ℕ) (s t ids ns : List ℕ) (i next step : ℕ) → i < length ids → length ns ≡ length ids → 4 + 8 * length ids ≤ length s
+    → t ≡ over s (4 + 8 * i) (entry_bytes (entry_with next (get_or ns i 0) (get_or ids i 0))) → step ≡ rule_size fmt * get_or ns i 0
+    → over s (4 + 8 * i) (contents_bytes (entries_given fmt next (drop i ids) (drop i ns)))
+    ≡ over t (4 + 8 * (i + 1)) (contents_bytes (entries_given fmt (next + step) (drop (i + 1) ids) (drop (i + 1) ns)))
 unfolding contents_bytes entries_given
-entries-put fmt s t ids ns i p next n k step h l fits a b q z =
-    let e : Entry = entry_with next n k in
+entries-put fmt s t ids ns i next step h l fits q z =
+    let e : Entry = entry_with next (get_or ns i 0) (get_or ids i 0) in
     let es : List Entry = entries_given fmt (next + step) (drop (i + 1) ids) (drop (i + 1) ns) in
     let m : List ℕ = contents_bytes es in
     let long : length es ≡ length ids - (i + 1) = length-given fmt (next + step) (drop (i + 1) ids) (drop (i + 1) ns) (omega (arith, length-drop (i + 1) ids, length-drop (i + 1) ns)) ∙ length-drop (i + 1) ids in
     let size : length m ≡ 8 * (length ids - (i + 1)) = length-contents es ∙ ap (λ (x : ℕ). 8 * x) long in
-    (λ j. over s p (contents_bytes (entries_given fmt next (drop-cons ids i 0 h j) (drop-cons ns i 0 (omega arith) j))))
-    ∙ (λ j. over s p (entry_bytes (entry_with next (sym a j) (sym b j)) ++ contents_bytes (entries_given fmt (next + rule_size fmt * sym a j) (drop (sym (add-one i) j) ids) (drop (sym (add-one i) j) ns))))
-    ∙ ap (λ (x : ℕ). over s p (entry_bytes e ++ contents_bytes (entries_given fmt (next + x) (drop (i + 1) ids) (drop (i + 1) ns)))) (sym z)
-    ∙ sym (ap (λ (u : List ℕ). over u (p + 8) m) q
-    ∙ over-over s p (p + 8) (entry_bytes e) m (omega (arith, length-entry e)) (omega (arith, length-entry e, size)))
+    (λ j. over s (4 + 8 * i) (contents_bytes (entries_given fmt next (drop-cons ids i 0 h j) (drop-cons ns i 0 (omega arith) j))))
+    ∙ (λ j. over s (4 + 8 * i) (entry_bytes e ++ contents_bytes (entries_given fmt (next + sym z j) (drop (sym (add-one i) j) ids) (drop (sym (add-one i) j) ns))))
+    ∙ sym (ap (λ (u : List ℕ). over u (4 + 8 * (i + 1)) m) q
+    ∙ over-over s (4 + 8 * i) (4 + 8 * (i + 1)) (entry_bytes e) m (omega (arith, length-entry e)) (omega (arith, length-entry e, size)))
 
 pub entries-put-end : (fmt : ℕ) (s ids ns : List ℕ) (i p next : ℕ) → length ids ≤ i → over s p (contents_bytes (entries_given fmt next (drop i ids) (drop i ns))) ≡ s
 unfolding contents_bytes entries_given

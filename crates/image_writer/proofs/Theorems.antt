@@ -10,7 +10,7 @@ use Rattle.rules.specs.Lists.{All}
 use Rattle.rules.specs.Replies.{Reply, Gives, passed, unless_refused}
 use Rattle.rules.proofs.ReplyLaws.{then_next}
 use Rattle.rules.proofs.SliceLaws.{rules-columns}
-use Rattle.image.specs.declared.NumberAnswer.{NumberAnswer}
+use Rattle.std.specs.Prelude.{Ok}
 use Rattle.image_form.specs.Formats.{known, most_places}
 use Rattle.image_form.specs.Images.{Named, format_in, width_in, lists_of, bytes_of}
 use Rattle.image_check.specs.Checks.{image_check}
@@ -89,7 +89,7 @@ read-written b h f = read-write b h f
 -- The call that does so gives the image's length, and the lent bytes start with the image.
 pub rewritten : (b out : List ℕ) → AreBytes b → image_check b ≡ passed → length b ≤ length out
     → Written (format_in b) (width_in b) (names_of (lists_of b)) (counts_of (lists_of b)) (cares_of (joined (lists_of b))) (values_of (joined (lists_of b))) (decisions_of (joined (lists_of b))) out
-    (NumberAnswer.Number (length b)) (filled b out)
+    (Ok (length b)) (filled b out)
 unfolding write_reply
 rewritten b out h f room =
     let ls : List Named = lists_of b in

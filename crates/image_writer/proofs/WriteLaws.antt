@@ -10,13 +10,12 @@ use lib.Seq.{length-take-le}
 use borrow.Author.Tests.{leb-true}
 use Rattle.rules.specs.Rule.{Rule}
 use Rattle.rules.specs.declared.Refusal.{Refusal}
-use Rattle.rules.specs.declared.Verdict.{Verdict}
-use Rattle.rules.specs.Replies.{Reply, Gives, passed, need, ◌then◌, verdict_reply, refusal_reply, unless_refused}
+use Rattle.rules.specs.Replies.{Reply, Gives, passed, need, ◌then◌, refusal_reply}
 use Rattle.rules.specs.Checks.{room_check}
 use Rattle.rules.specs.Slices.{rules_of, filled}
-use Rattle.rules.proofs.ReplyLaws.{fine-next, refused-stop, need-then, then-second, bare-first}
+use Rattle.rules.proofs.ReplyLaws.{then_next, then-stop, stop-up, same-refused, same-given, need-then, then-second, bare-first}
 use Rattle.rules.proofs.SliceLaws.{rules-length}
-use Rattle.image.specs.declared.NumberAnswer.{NumberAnswer}
+use Rattle.std.specs.Prelude.{Result, Ok, IsErrAnd}
 use Rattle.image_form.specs.Formats.{rule_size}
 use Rattle.image_form.specs.declared.Entry.{Entry}
 use Rattle.image_form.specs.Images.{entry_with, entries_for, rule_bytes, rules_bytes, bodies_bytes, contents_bytes, bytes_of}
@@ -61,11 +60,10 @@ write-facts fmt w ids ns cs vs ds room ms f =
 -- what has all that passes them
 pub facts-write : (fmt w : ℕ) (ids ns cs vs ds : List ℕ) (room : ℕ) → WriteFacts fmt w ids ns cs vs ds room → write_check fmt w ids ns cs vs ds room ≡ passed
 facts-write fmt w ids ns cs vs ds room f =
-    sym (write-fine fmt w ids ns cs vs ds room Verdict.Fine (sym (shape-passes fmt w ids ns cs vs ds f.shape)) refl Verdict.Fine (sym f.names) refl Verdict.Fine (sym f.rules) refl
-    f.small f.fits)
+    write-fine fmt w ids ns cs vs ds room (shape-passes fmt w ids ns cs vs ds f.shape) f.names f.rules f.small f.fits
 
-pub wrote : (fmt w : ℕ) (ids ns cs vs ds : List ℕ) (room : ℕ) (v : Verdict) → verdict_reply v ≡ write_check fmt w ids ns cs vs ds room → v ≡ Verdict.Fine → WriteFacts fmt w ids ns cs vs ds room
-wrote fmt w ids ns cs vs ds room v p q = write-facts fmt w ids ns cs vs ds room [] (sym p ∙ ap verdict_reply q)
+pub wrote : (fmt w : ℕ) (ids ns cs vs ds : List ℕ) (room : ℕ) → passed ≡ write_check fmt w ids ns cs vs ds room → WriteFacts fmt w ids ns cs vs ds room
+wrote fmt w ids ns cs vs ds room p = write-facts fmt w ids ns cs vs ds room [] (sym p)
 
 module _ (fmt w : ℕ) (ids ns cs vs ds : List ℕ) (room : ℕ) (f : WriteFacts fmt w ids ns cs vs ds room) where
   -- the counts add up to the rules that fit
@@ -145,22 +143,23 @@ module _ (fmt w : ℕ) (ids ns cs vs ds : List ℕ) (shape : Shape fmt w ids ns 
 
 -- ---- the call
 
-module _ (fmt w : ℕ) (ids ns cs vs ds out : List ℕ) (v : Verdict) (p : verdict_reply v ≡ write_check fmt w ids ns cs vs ds (length out)) where
-  pub written-refused : {x : Refusal} → v ≡ Verdict.Refused x → Written fmt w ids ns cs vs ds out (NumberAnswer.Refused x) out
+module _ (fmt w : ℕ) (ids ns cs vs ds out : List ℕ) where
+  pub written-refused : (r : Result ℕ Refusal) (x : Refusal) → IsErrAnd r (λ y. y ≡ x) → refusal_reply x ≡ write_check fmt w ids ns cs vs ds (length out) → Written fmt w ids ns cs vs ds out r out
   unfolding write_reply
-  written-refused {x} q =
-      let e : write_reply fmt w ids ns cs vs ds out ≡ refusal_reply x = refused-stop v _ _ p q in
-      record { answer = sym e; bytes = sym (ap (λ (u : Reply). unless_refused u (filled (bytes_of fmt w (given ids ns cs vs ds)) out) out) e) }
+  written-refused r x up q =
+      record {
+        answer = stop-up _ r _ _ x up q;
+        bytes = same-refused (write_reply fmt w ids ns cs vs ds out) x _ out (then-stop _ _ x (sym q));
+      }
 
-  pub written : v ≡ Verdict.Fine → (size : ℕ) → size ≡ rule_size fmt * length ds → (s₁ s₂ s₃ : List ℕ)
+  pub written : passed ≡ write_check fmt w ids ns cs vs ds (length out) → (size : ℕ) → size ≡ rule_size fmt * length ds → (s₁ s₂ s₃ : List ℕ)
       → s₁ ≡ over out 0 (fmt ∷ w ∷ length ids ∷ 0 ∷ []) → s₂ ≡ over s₁ 4 (contents_bytes (entries_given fmt (4 + 8 * length ids) ids ns)) → s₃ ≡ over s₂ (4 + 8 * length ids) (rules_bytes fmt (rules_of cs vs ds))
-      → Written fmt w ids ns cs vs ds out (NumberAnswer.Number (4 + 8 * length ids + size)) s₃
+      → Written fmt w ids ns cs vs ds out (Ok (4 + 8 * length ids + size)) s₃
   unfolding write_reply
   written q size z s₁ s₂ s₃ e₁ e₂ e₃ =
-      let f = wrote fmt w ids ns cs vs ds (length out) v p q in
-      let e : write_reply fmt w ids ns cs vs ds out ≡ Gives (image_length fmt (length ids) (length ds) ∷ []) = fine-next v _ _ p q in
+      let f = wrote fmt w ids ns cs vs ds (length out) q in
+      let e : write_reply fmt w ids ns cs vs ds out ≡ Gives (image_length fmt (length ids) (length ds) ∷ []) = then_next _ _ (sym q) in
       record {
         answer = ap (λ (k : ℕ). Gives ((4 + 8 * length ids + k) ∷ [])) z ∙ sym e;
-        bytes = parts-given fmt w ids ns cs vs ds f.shape out s₁ s₂ s₃ f.fits e₁ e₂ e₃
-            ∙ sym (ap (λ (u : Reply). unless_refused u (filled (bytes_of fmt w (given ids ns cs vs ds)) out) out) e);
+        bytes = parts-given fmt w ids ns cs vs ds f.shape out s₁ s₂ s₃ f.fits e₁ e₂ e₃ ∙ same-given (write_reply fmt w ids ns cs vs ds out) _ _ out e;
       }

@@ -1,191 +1,135 @@
 // Writing an image of lists: every check comes before the first byte.
-ghost use Rattle.std.specs.Prelude.{◌≡◌, ◌+◌, ◌*◌, ◌≤◌, eqb, length};
-ghost use Rattle.rules.specs.Replies.{verdict_reply, passed};
-ghost use Rattle.rules.specs.Checks.{widest};
-ghost use Rattle.rules.specs.Slices.{Lent};
+ghost use Rattle.std.specs.Prelude.{◌≡◌, ◌+◌, ◌*◌, ◌≤◌, eqb, leb, length};
+ghost use Rattle.rules.specs.Replies.{verdict_reply, need, passed, ◌then◌};
+ghost use Rattle.rules.specs.Checks.{widest, room_check};
+ghost use Rattle.rules.specs.Slices.{LentIn};
 ghost use Rattle.image_check.specs.Checks.{lists_check};
-ghost use Rattle.image_writer.specs.Writing.{sum_of, given, names_check, given_check, shape_check, write_check, Written};
+ghost use Rattle.image_writer.specs.Writing.{sum_of, given_in, names_check, given_check_in, shape_check_in, write_check_in, WrittenIn};
 
-use crate::puts::{put_contents, put_head, put_rules, wide16};
-use image::NumberAnswer;
+use crate::puts::{put_contents, put_head, put_rules};
 use image_form::layout;
-use rules::{Verdict, check_list_as, refused};
+use rules::{Reason, Refusal, RuleList, check_list_as, check_room, refused};
 
-// Whether counts add up to a number of rules. What is left of it is counted down, so that no sum can wrap.
+// Whether counts add up to a number of rules.
+#[tactic(auto, using(crate::proofs::GivenLaws::sum_counted))]
 fn adds_up(counts: &[u16], rules: usize) -> bool
     ensures { result ≡ eqb (sum_of counts.now) rules }
 {
-    let mut left = rules;
-    let mut i: usize = 0;
-    while i < counts.len() {
-        let count = wide16(counts[i]);
-        if count > left {
-            return false;
-        }
-        left -= count;
-        i += 1;
-    }
-    left == 0
+    counts.iter().map(|n| u128::from(*n)).sum::<u128>() == rules as u128
 }
 
 // Refusal 2: the lengths of the slices, and the counts.
-fn given_verdict(
-    ids: &[u16],
-    counts: &[u16],
-    care: &[u64],
-    value: &[u64],
-    decision: &[u16],
-) -> Verdict
-    ensures { verdict_reply result ≡ given_check ids.now counts.now
-        care.now value.now decision.now }
+#[tactic(auto, using(std::proofs::lemmas::Bool::Decides::nat_tests), unfolding(crate::specs::Writing::given_check, rules::specs::Checks::lengths_check))]
+fn given_verdict(ids: &[u16], counts: &[u16], rules: RuleList) -> Result<(), Refusal>
+    ensures { verdict_reply result ≡ given_check_in ids.now counts.now rules.entry }
 {
-    if ids.len() != counts.len() {
-        return refused(2, 0, 0);
+    if ids.len() != counts.len()
+        || rules.care.len() != rules.value.len()
+        || rules.care.len() != rules.decision.len() * 2
+        || !adds_up(counts, rules.decision.len())
+    {
+        return refused(Reason::Slices, 0, 0);
     }
-    if care.len() != value.len() {
-        return refused(2, 0, 0);
-    }
-    if care.len() != decision.len() * 2 {
-        return refused(2, 0, 0);
-    }
-    if adds_up(counts, decision.len()) {
-        return Verdict::Fine;
-    }
-    refused(2, 0, 0)
+    Ok(())
 }
 
 // Refusals 11, 1, 2 and 12.
+#[tactic(auto, using(std::proofs::lemmas::Bool::Decides::nat_tests, rules::proofs::ReplyLaws::passing), unfolding(crate::specs::Writing::shape_check, image_form::specs::Formats::format_check, image_form::specs::Formats::range_check))]
 fn shape_verdict(
     format: u8,
     width: u32,
     ids: &[u16],
     counts: &[u16],
-    care: &[u64],
-    value: &[u64],
-    decision: &[u16],
-) -> Verdict
-    ensures { verdict_reply result ≡ shape_check format width ids.now counts.now
-        care.now value.now decision.now }
+    rules: RuleList,
+) -> Result<(), Refusal>
+    ensures { verdict_reply result ≡ shape_check_in format width ids.now counts.now rules.entry }
 {
     let layout = layout(format);
     if !layout.known {
-        return refused(11, 0, 0);
+        return refused(Reason::Format, 0, 0);
     }
-    if width < 1 {
-        return refused(1, 0, 0);
+    if width < 1 || width > layout.places {
+        return refused(Reason::Width, 0, 0);
     }
-    if width > layout.places {
-        return refused(1, 0, 0);
+    given_verdict(ids, counts, rules)?;
+    if ids.is_empty() || ids.len() > 16 {
+        return refused(Reason::Lists, 0, 0);
     }
-    let v = given_verdict(ids, counts, care, value, decision);
-    let Verdict::Fine = v else {
-        return v;
-    };
-    if ids.len() < 1 {
-        return refused(12, 0, 0);
-    }
-    if ids.len() > 16 {
-        return refused(12, 0, 0);
-    }
-    Verdict::Fine
+    Ok(())
 }
 
 // Refusals 13, 24 and 3, list by list.
-fn names_verdict(ids: &[u16], counts: &[u16]) -> Verdict
+fn names_verdict(ids: &[u16], counts: &[u16]) -> Result<(), Refusal>
     requires { length counts.now ≡ length ids.now }
     ensures { verdict_reply result ≡ names_check 1 0 ids.now counts.now }
 {
-    let mut least: usize = 0;
-    let mut i: usize = 0;
-    while i < ids.len() {
-        let id = wide16(ids[i]);
+    let mut least = 0;
+    for i in 0..ids.len() {
+        let id = usize::from(ids[i]);
         if id < least {
-            return refused(13, i + 1, 0);
+            return refused(Reason::Ids, i + 1, 0);
         }
-        let count = wide16(counts[i]);
+        let count = counts[i];
         if count < 1 {
-            return refused(24, i + 1, 0);
+            return refused(Reason::EmptyList, i + 1, 0);
         }
         if count > 1024 {
-            return refused(3, i + 1, 0);
+            return refused(Reason::Rules, i + 1, 0);
         }
         least = id + 1;
-        i += 1;
     }
-    Verdict::Fine
+    Ok(())
 }
 
 // The rules of each list, as the rule library checks a list.
-fn lists_verdict(
-    width: u32,
-    ids: &[u16],
-    counts: &[u16],
-    care: &[u64],
-    value: &[u64],
-    decision: &[u16],
-) -> Verdict
+fn lists_verdict(width: u32, ids: &[u16], counts: &[u16], rules: RuleList) -> Result<(), Refusal>
     requires { (1 ≤ width) × (width ≤ widest) × (length counts.now ≡ length ids.now)
-        × (sum_of counts.now ≡ length decision.now) × Lent care.now value.now decision.now
+        × (sum_of counts.now ≡ length rules.decision.now) × LentIn rules
         × (names_check 1 0 ids.now counts.now ≡ passed) }
-    ensures { verdict_reply result ≡ lists_check width 1 (given ids.now counts.now
-        care.now value.now decision.now) }
+    ensures { verdict_reply result ≡ lists_check width 1 (given_in ids.now counts.now rules.entry) }
 {
-    let mut from: usize = 0;
-    let mut i: usize = 0;
-    while i < ids.len() {
-        let end = from + wide16(counts[i]);
-        let first = from * 2;
-        let last = end * 2;
-        let v = check_list_as(
-            i + 1,
-            width,
-            &care[first..last],
-            &value[first..last],
-            &decision[from..end],
-        );
-        let Verdict::Fine = v else {
-            return v;
+    let mut from = 0;
+    for i in 0..ids.len() {
+        let end = from + usize::from(counts[i]);
+        let list = RuleList {
+            care: &rules.care[from * 2..end * 2],
+            value: &rules.value[from * 2..end * 2],
+            decision: &rules.decision[from..end],
         };
+        check_list_as(i + 1, width, list)?;
         from = end;
-        i += 1;
     }
-    Verdict::Fine
+    Ok(())
+}
+
+// Refusal 10 of an image of `size` bytes, then 7, with `room` bytes lent.
+#[tactic(auto, using(std::proofs::lemmas::Bool::Decides::nat_tests))]
+fn size_verdict(size: usize, room: usize) -> Result<(), Refusal>
+    ensures { verdict_reply result ≡ (need (leb size 65536) 10 0 0 then room_check size room) }
+{
+    if size > 65536 {
+        return refused(Reason::Size, 0, 0);
+    }
+    check_room(size, room)
 }
 
 // All checks of the writer, with `room` bytes lent.
+#[tactic(auto, using(rules::proofs::ReplyLaws::passing), unfolding(crate::specs::Writing::write_check))]
 fn write_verdict(
     format: u8,
     width: u32,
     ids: &[u16],
     counts: &[u16],
-    care: &[u64],
-    value: &[u64],
-    decision: &[u16],
+    rules: RuleList,
     room: usize,
-) -> Verdict
-    ensures { verdict_reply result ≡ write_check format width ids.now counts.now
-        care.now value.now decision.now room }
+) -> Result<(), Refusal>
+    ensures { verdict_reply result ≡ write_check_in format width ids.now counts.now rules.entry room }
 {
-    let s = shape_verdict(format, width, ids, counts, care, value, decision);
-    let Verdict::Fine = s else {
-        return s;
-    };
-    let n = names_verdict(ids, counts);
-    let Verdict::Fine = n else {
-        return n;
-    };
-    let l = lists_verdict(width, ids, counts, care, value, decision);
-    let Verdict::Fine = l else {
-        return l;
-    };
-    let size = 4 + 8 * ids.len() + layout(format).rule * decision.len();
-    if size > 65536 {
-        return refused(10, 0, 0);
-    }
-    if size > room {
-        return refused(7, 0, 0);
-    }
-    Verdict::Fine
+    shape_verdict(format, width, ids, counts, rules)?;
+    names_verdict(ids, counts)?;
+    lists_verdict(width, ids, counts, rules)?;
+    let size = 4 + 8 * ids.len() + layout(format).rule * rules.decision.len();
+    size_verdict(size, room)
 }
 
 // Writes the image of lists in a format: `counts` says how many of the rules belong to each id, in order. The answer is the
@@ -195,22 +139,16 @@ pub fn write(
     width: u32,
     ids: &[u16],
     counts: &[u16],
-    care: &[u64],
-    value: &[u64],
-    decision: &[u16],
+    rules: RuleList,
     out: &mut [u8],
-) -> NumberAnswer
-    ensures { Written format width ids.now counts.now
-        care.now value.now decision.now out.old result out.new }
+) -> Result<usize, Refusal>
+    ensures { WrittenIn format width ids.now counts.now rules.entry out.old result out.new }
 {
-    let v = write_verdict(format, width, ids, counts, care, value, decision, out.len());
-    if let Verdict::Refused(x) = v {
-        return NumberAnswer::Refused(x);
-    }
+    write_verdict(format, width, ids, counts, rules, out.len())?;
     let lists = ids.len();
     let from = 4 + 8 * lists;
     put_head(out, format, width, lists);
     put_contents(out, format, ids, counts);
-    put_rules(out, format, from, care, value, decision);
-    NumberAnswer::Number(from + layout(format).rule * decision.len())
+    put_rules(out, format, from, rules);
+    Ok(from + layout(format).rule * rules.decision.len())
 }

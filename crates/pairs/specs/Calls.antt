@@ -1,24 +1,20 @@
 -- What each public call on two rules replies: the checks of the two rules in document 01's order, then its answer.
-use Rattle.std.specs.Prelude.{ℕ, [], ◌∷◌, Bool}
+use Rattle.std.specs.Prelude.{ℕ, List, [], ◌∷◌, Bool, Result}
 use Rattle.rules.specs.Rule.{Rule}
+use Rattle.rules.specs.declared.Refusal.{Refusal}
 use Rattle.rules.specs.Rules.{choose, covers, crosses, distance}
-use Rattle.rules.specs.Replies.{Reply, Gives, ◌then◌, refusal_reply}
+use Rattle.rules.specs.Replies.{Reply, Gives, ◌then◌, reply}
 use Rattle.rules.specs.Checks.{rule_check}
 use Rattle.rules.specs.Calls.{check_rule}
-use Rattle.pairs.specs.declared.Holds.{Holds}
-use Rattle.pairs.specs.declared.Measured.{Measured}
 
--- ---- the numbers of each case of each answer
+-- ---- whether something holds of two rules, in numbers
 
 -- Yes is 1, no is 0.
-abbrev pub holds_reply : Holds → Reply
-holds_reply Holds.Yes = Gives (1 ∷ [])
-holds_reply Holds.No = Gives (0 ∷ [])
-holds_reply (Holds.Refused x) = refusal_reply x
+abbrev pub yes_or_no_values : Bool → List ℕ
+yes_or_no_values t = choose t 1 0 ∷ []
 
-abbrev pub measured_reply : Measured → Reply
-measured_reply (Measured.Places n) = Gives (n ∷ [])
-measured_reply (Measured.Refused x) = refusal_reply x
+abbrev pub holds_reply : Result Bool Refusal → Reply
+holds_reply r = reply yes_or_no_values r
 
 -- ---- the calls
 
@@ -28,7 +24,7 @@ pair_check w a b = check_rule w 1 1 a then rule_check w 2 1 b
 
 -- A test as an answer, in the same numbers.
 abbrev pub yes_or_no : Bool → Reply
-yes_or_no t = Gives (choose t 1 0 ∷ [])
+yes_or_no t = Gives (yes_or_no_values t)
 
 unfoldable pub covers_reply : ℕ → Rule → Rule → Reply
 covers_reply w a b = pair_check w a b then yes_or_no (covers a b)

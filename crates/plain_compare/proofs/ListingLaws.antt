@@ -3,7 +3,7 @@ use Prim.Native.Nat.{ℕ, ◌+◌, ◌-◌, ◌≤◌, ◌<◌}
 use mathlib.Core.Path.{◌≡◌, sym, ap, ◌∙◌}
 use mathlib.Core.Logic.{◌≢◌}
 use mathlib.Core.List.{List}
-use mathlib.Core.Bool.{Bool, true, false, false≢true}
+use mathlib.Core.Bool.{Bool, true}
 use native.Mathlib.Omega.{arith}
 use lib.ListN.{length, get_or, set}
 use lib.Dec.{eqb}
@@ -15,22 +15,14 @@ use Rattle.words.proofs.Tests.{eqb_yes, no_eqb}
 use Rattle.compare.specs.Sweep.{Room, Joins}
 use Rattle.compare.proofs.SweepRuns.{runs-gap}
 use Rattle.compare.proofs.SweepLaws.{put-words, listing-same, join_last, stopped, more}
-use Rattle.plain_compare.specs.declared.listing.Noted.{Noted}
+use Rattle.std.specs.Prelude.{Some, None}
 use Rattle.plain_compare.specs.Walk.{Tells, Passed, Passes}
 
 -- ---- whether the last run ends right before h with the answers of h
 
--- it does not
-pub told-no : {P : Type 0} → (P → ⊥) → Tells false P
-told-no n = ((λ e. absurd (false≢true e)), λ e. n)
-
--- by the test of the word at its last place
 module _ (last old new : List ℕ) (count h a b : ℕ) (after : h ≡ 0 → ⊥) {t : Bool} {x y : Word}
     (e : t ≡ eqb (num x) (num y)) (p : x ≡ halves (get_or (words_of last) (count - 1) 0)) (q : y ≡ halves (h - 1)) where
-  pub ends-elsewhere : t ≡ false → Tells false (Joins last old new count h a b)
-  ends-elsewhere f = told-no (λ j. no_eqb (num x) (num y) (sym e ∙ f) (omega (arith, j.next, holds p, holds q)))
-
-  -- and then, where the old answer is the same, of the new answer
+  -- and by the new answer there, where that test and the old answer say yes
   pub told-by-new : t ≡ true → (count ≡ 0 → ⊥) → get_or old (count - 1) 0 ≡ a
       → Tells (eqb (get_or new (count - 1) 0) b) (Joins last old new count h a b)
   told-by-new f c o =
@@ -44,7 +36,7 @@ alone f h a e k p q = sym e ∙ ap f (omega arith)
 
 -- the two lists answer alike at h
 pub passed_over : (f g : ℕ → ℕ) (h : ℕ) (first last old new : List ℕ) (count : ℕ) → f h ≡ g h
-    → Passes f g h first last old new first last old new count (Noted.Going count)
+    → Passes f g h first last old new first last old new count (Some count)
 unfolding Passed
 passed_over f g h first last old new count e start wf wl wo wn from L =
     listing-same f g start h wf wl wo wn first last old new count L (h + 1)
@@ -58,7 +50,7 @@ module _ (h a b : ℕ) (first last old new : List ℕ) (count : ℕ) (differ : a
 
   -- the last run is lengthened
   pub lengthened : (last' : List ℕ) → last' ≡ with_word last (count - 1) x → Joins last old new count h a b
-      → (f g : ℕ → ℕ) → f h ≡ a → g h ≡ b → Passes f g h first last old new first last' old new count (Noted.Going count)
+      → (f g : ℕ → ℕ) → f h ≡ a → g h ≡ b → Passes f g h first last old new first last' old new count (Some count)
   unfolding Passed
   lengthened last' p J f g F G start wf wl wo wn from L =
       join_last start h h a b first last old new count from (omega arith) differ R few f g (alone f h a F) (alone g h b G) wf wl wo wn L
@@ -67,7 +59,7 @@ module _ (h a b : ℕ) (first last old new : List ℕ) (count : ℕ) (differ : a
   module _ (n : Joins last old new count h a b → ⊥) where
     -- no place is left
     pub no_place : count ≡ length old
-        → (f g : ℕ → ℕ) → f h ≡ a → g h ≡ b → Passes f g h first last old new first last old new count Noted.Full
+        → (f g : ℕ → ℕ) → f h ≡ a → g h ≡ b → Passes f g h first last old new first last old new count None
     unfolding Passed
     no_place c f g F G start wf wl wo wn from L =
         stopped start h h a b first last old new count from (omega arith) differ R few f g (alone f h a F) (alone g h b G) wf wl wo wn L n c
@@ -75,7 +67,7 @@ module _ (h a b : ℕ) (first last old new : List ℕ) (count : ℕ) (differ : a
     -- one more run
     pub one_more : (first' last' : List ℕ) → first' ≡ with_word first count x → last' ≡ with_word last count x → (count ≡ length old → ⊥)
         → (f g : ℕ → ℕ) → f h ≡ a → g h ≡ b
-        → Passes f g h first last old new first' last' (set old count a) (set new count b) count (Noted.Going (count + 1))
+        → Passes f g h first last old new first' last' (set old count a) (set new count b) count (Some (count + 1))
     unfolding Passed
     one_more first' last' p q c f g F G start wf wl wo wn from L =
         more start h h a b first last old new count from (omega arith) differ R few f g (alone f h a F) (alone g h b G) wf wl wo wn L

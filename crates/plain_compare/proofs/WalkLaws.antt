@@ -10,11 +10,11 @@ use Rattle.words.specs.Slices.{halves_of}
 use Rattle.words.proofs.SliceLaws.{Machine}
 use Rattle.rules.specs.Replies.{Gives, passed}
 use Rattle.compare.specs.declared.Compared.{Compared}
-use Rattle.compare.specs.Calls.{ending_reply}
+use Rattle.compare.specs.Calls.{header_values}
 use Rattle.compare.specs.Sweep.{Room, Listing, Stopped, RunsPut}
 use Rattle.compare.proofs.SweepRuns.{runs-gap}
 use Rattle.compare.proofs.SweepLaws.{listing-same, listing_start, Slices, all_listed, places-used}
-use Rattle.plain_compare.specs.declared.listing.Noted.{Noted}
+use Rattle.std.specs.Prelude.{Option, Some, None}
 use Rattle.plain_compare.specs.Walk.{Passed, Passes}
 
 -- The walk is at header h: the runs of the headers before it are listed, in `count` places, and the slices are as long as they were. Those of
@@ -61,9 +61,9 @@ module _ (f g : ℕ → ℕ) (top start : ℕ) (first last old new : List ℕ) w
     walk-few = omega (arith, W.listing.few, W.old_long)
 
     -- the walk goes on
-    pub walk-on : (first'' last'' old'' new'' : List ℕ) (r : Noted) (n : ℕ) → h < top
+    pub walk-on : (first'' last'' old'' new'' : List ℕ) (r : Option ℕ) (n : ℕ) → h < top
         → length first'' ≡ length first' → length last'' ≡ length last' → length old'' ≡ length old' → length new'' ≡ length new'
-        → Machine first'' → Machine last'' → Passes f g h first' last' old' new' first'' last'' old'' new'' count r → r ≡ Noted.Going n
+        → Machine first'' → Machine last'' → Passes f g h first' last' old' new' first'' last'' old'' new'' count r → r ≡ Some n
         → Walking f g top start (h + 1) first last old new first'' last'' old'' new'' n
     unfolding Passed
     walk-on first'' last'' old'' new'' r n l a b c d F L P e = record {
@@ -80,7 +80,7 @@ module _ (f g : ℕ → ℕ) (top start : ℕ) (first last old new : List ℕ) w
 
     module _ (was-first : Machine first) (was-last : Machine last) where
       -- all headers are walked
-      pub walk_end : top ≤ h → (r : Compared) → r.count ≡ count → ending_reply r.ending ≡ passed
+      pub walk_end : top ≤ h → (r : Compared) → r.count ≡ count → Gives (header_values r.next) ≡ passed
           → RunsPut f g top start first last old new first' last' old' new' r
       walk_end l r c p =
           let M : Slices f g top start first last old new first' last' =
@@ -89,9 +89,9 @@ module _ (f g : ℕ → ℕ) (top start : ℕ) (first last old new : List ℕ) w
           all_listed f g top start first last old new first' last' old' new' M r count (rw e at W.listing) c p
 
       -- all places are used
-      pub walk_more : (first'' last'' old'' new'' : List ℕ) (noted : Noted) → h < top → length first'' ≡ length first' → length last'' ≡ length last'
-          → Machine first'' → Machine last'' → Passes f g h first' last' old' new' first'' last'' old'' new'' count noted → noted ≡ Noted.Full
-          → (x : Word) → x ≡ halves h → (r : Compared) → r.count ≡ count → ending_reply r.ending ≡ Gives (x.low ∷ x.high ∷ [])
+      pub walk_more : (first'' last'' old'' new'' : List ℕ) (noted : Option ℕ) → h < top → length first'' ≡ length first' → length last'' ≡ length last'
+          → Machine first'' → Machine last'' → Passes f g h first' last' old' new' first'' last'' old'' new'' count noted → noted ≡ None
+          → (x : Word) → x ≡ halves h → (r : Compared) → r.count ≡ count → Gives (header_values r.next) ≡ Gives (x.low ∷ x.high ∷ [])
           → RunsPut f g top start first last old new first'' last'' old'' new'' r
       unfolding Passed halves_of
       walk_more first'' last'' old'' new'' noted l a b F L P q x e r c p =

@@ -7,15 +7,15 @@ use Prim.Native.Nat.{ℕ, zero, suc, ◌+◌, ◌-◌, ◌≤◌, ◌<◌}
 use native.Mathlib.Numerals.{add-one}
 use native.Mathlib.Omega.{arith}
 use lib.Dec.{eqb}
+use Rattle.std.specs.Prelude.{Result, IsErrAnd}
 use Rattle.rules.specs.Rule.{Rule}
 use Rattle.rules.specs.declared.Refusal.{Refusal}
-use Rattle.rules.specs.declared.Verdict.{Verdict}
 use Rattle.rules.specs.Rules.{crosses}
 use Rattle.rules.specs.Slices.{rule_at}
-use Rattle.rules.specs.Replies.{Reply, Gives, Refuses, passed, need, ◌then◌, verdict_reply}
+use Rattle.rules.specs.Replies.{Reply, Gives, Refuses, passed, need, ◌then◌, refusal_reply, verdict_reply}
 use Rattle.prefixes.specs.Prefix.{crosses_with, crosses_among}
 use Rattle.words.proofs.Tests.{split, eqb_yes, no_eqb}
-use Rattle.rules.proofs.ReplyLaws.{then_next, then-refuses, gives-refuses, need-yes, need-no}
+use Rattle.rules.proofs.ReplyLaws.{passed-up, then_next, then-refuses, gives-refuses, need-yes, need-no}
 
 -- ---- replies
 
@@ -80,16 +80,15 @@ module _ (rs : List Rule) where
   among-stays j (suc k) e =
       ap (crosses_among rs) (let z : suc k + j ≡ suc (k + j) = omega arith in z) ∙ among-keep (k + j) (among-stays j k e)
 
-  pub among-no : (j : ℕ) (v : Verdict) → crosses_among rs j ≡ passed → verdict_reply v ≡ crosses_with rs j j → v ≡ Verdict.Fine
-      → crosses_among rs (j + 1) ≡ passed
-  among-no j v z e f = ap (crosses_among rs) (add-one j) ∙ among-suc j ∙ then_next _ _ z ∙ sym e ∙ ap verdict_reply f
+  pub among-no : (j : ℕ) → crosses_among rs j ≡ passed → passed ≡ crosses_with rs j j → crosses_among rs (j + 1) ≡ passed
+  among-no j z e = ap (crosses_among rs) (add-one j) ∙ among-suc j ∙ then_next _ _ z ∙ sym e
 
-  pub among-yes : (k j : ℕ) (v : Verdict) {x : Refusal} → j < k → crosses_among rs j ≡ passed → verdict_reply v ≡ crosses_with rs j j
-      → v ≡ Verdict.Refused x → verdict_reply v ≡ crosses_among rs k
-  among-yes k j v {x} l z e f =
-      ap verdict_reply f
+  pub among-yes : (k j : ℕ) (v : Result (Unit {0}) Refusal) (x : Refusal) → j < k → crosses_among rs j ≡ passed → IsErrAnd v (λ y. y ≡ x)
+      → refusal_reply x ≡ crosses_with rs j j → verdict_reply v ≡ crosses_among rs k
+  among-yes k j v x l z f e =
+      passed-up _ v x f
       ∙ sym (ap (crosses_among rs) (let q : k ≡ (k - suc j) + suc j = omega arith in q)
-      ∙ among-stays (suc j) (k - suc j) (among-suc j ∙ then_next _ _ z ∙ sym e ∙ ap verdict_reply f))
+      ∙ among-stays (suc j) (k - suc j) (among-suc j ∙ then_next _ _ z ∙ sym e))
 
   -- ---- what the search finds
 

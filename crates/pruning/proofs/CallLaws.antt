@@ -1,31 +1,30 @@
 -- Laws of the call: its checks in their order, and what it leaves.
-use Prim.Native.Nat.{ℕ, ◌-◌, ◌*◌, ◌≤◌, ◌<◌}
+use Prim.Native.Nat.{ℕ, ◌-◌, ◌*◌, ◌≤◌}
 use mathlib.Core.Path.{◌≡◌, sym, ap, ap₂, ◌∙◌, subst}
 use mathlib.Core.List.{List, [], ◌∷◌, ◌++◌}
 use native.Mathlib.Omega.{arith}
 use lib.ListN.{length, drop, take, length-append}
 use lib.Seq.{take_at, drop_at}
 use lib.Dec.{eqb}
-use borrow.Author.Tests.{eq-eqb, ne_eqb, leb-true}
+use borrow.Author.Tests.{leb-true}
 use Rattle.words.proofs.Tests.{eqb_yes, and-true}
 use Rattle.words.proofs.SliceLaws.{Machine}
 use Rattle.rules.specs.Rule.{Rule}
 use Rattle.rules.specs.Rules.{Valid}
 use Rattle.rules.specs.Lists.{All}
 use Rattle.rules.specs.Slices.{rules_of, blanks, Lent}
-use Rattle.rules.specs.Replies.{Gives, Refuses, passed, ◌then◌, refusal_reply, verdict_reply}
+use Rattle.rules.specs.Replies.{Gives, passed, ◌then◌, refusal_reply}
 use Rattle.rules.specs.Checks.{lengths_check, room_check, Sound}
 use Rattle.rules.specs.Calls.{check_list}
 use Rattle.rules.specs.declared.Refusal.{Refusal}
-use Rattle.rules.specs.declared.Verdict.{Verdict}
-use Rattle.rules.proofs.ReplyLaws.{then_next, then-refuses, then-second, need-then, need-yes, need-no, need-passed, refused-stop, verdict-passed, same-refused, same-given, fine-next}
-use Rattle.rules.proofs.CheckLaws.{list-sound, lengths-values, lengths-decisions, lengths-yes, room-no, room-yes}
+use Rattle.std.specs.Prelude.{Result, Ok, IsErrAnd}
+use Rattle.rules.proofs.ReplyLaws.{then_next, then-stop, then-second, need-then, need-passed, passed-up, same-refused, same-given}
+use Rattle.rules.proofs.CheckLaws.{list-sound}
 use Rattle.rules.proofs.PaddedLaws.{cares-padded, values-padded, decisions-padded}
 use Rattle.rules.proofs.SliceLaws.{rules-length}
-use Rattle.pruning.specs.declared.Pruned.{Pruned}
 use Rattle.pruning.specs.declared.Tally.{Tally}
 use Rattle.pruning.specs.Prune.{prune, kept, dropped}
-use Rattle.pruning.specs.Calls.{headers_check, results_check, prune_reply, PruneDone}
+use Rattle.pruning.specs.Calls.{headers_check, results_check, tally_values, prune_reply, PruneDone}
 use Rattle.pruning.specs.Inner.{Holds, Passing, Copied, Shown, Left}
 use Rattle.pruning.proofs.Theorems.{prune-never-longer}
 use Rattle.pruning.proofs.AskLaws.{first-rules}
@@ -34,45 +33,14 @@ use Rattle.pruning.proofs.ShowLaws.{headers-padded}
 
 -- ---- the result slices
 
-module _ (n : ℕ) (cs vs ds hs : List ℕ) where
-  headers-yes : length hs ≡ length ds * 2 → headers_check hs ds ≡ passed
-  unfolding headers_check
-  headers-yes e = need-yes _ 2 0 0 (eq-eqb _ _ e)
-
-  headers-no : (length hs ≡ length ds * 2 → ⊥) → headers_check hs ds ≡ Refuses 2 0 0
-  unfolding headers_check
-  headers-no h = need-no _ 2 0 0 (ne_eqb _ _ h)
-
-  pub two-values-refused : (length cs ≡ length vs → ⊥) → results_check n cs vs ds hs ≡ Refuses 2 0 0
-  unfolding results_check
-  two-values-refused h = then-refuses _ _ (lengths-values cs vs ds h)
-
-  pub two-decisions : length cs ≡ length vs → (length cs ≡ length ds * 2 → ⊥) → results_check n cs vs ds hs ≡ Refuses 2 0 0
-  unfolding results_check
-  two-decisions e h = then-refuses _ _ (lengths-decisions cs vs ds e h)
-
-  module _ (e : length cs ≡ length vs) (f : length cs ≡ length ds * 2) where
-    after-lengths : results_check n cs vs ds hs ≡ (headers_check hs ds then room_check n (length ds))
-    unfolding results_check
-    after-lengths = then_next _ _ (lengths-yes cs vs ds e f)
-
-    pub two-headers : (length hs ≡ length ds * 2 → ⊥) → results_check n cs vs ds hs ≡ Refuses 2 0 0
-    two-headers h = after-lengths ∙ then-refuses _ _ (headers-no h)
-
-    pub seven : length hs ≡ length ds * 2 → length ds < n → results_check n cs vs ds hs ≡ Refuses 7 0 0
-    seven g h = after-lengths ∙ then_next _ _ (headers-yes g) ∙ room-no _ _ h
-
-    pub all-fine : length hs ≡ length ds * 2 → n ≤ length ds → results_check n cs vs ds hs ≡ passed
-    all-fine g h = after-lengths ∙ then_next _ _ (headers-yes g) ∙ room-yes _ _ h
-
-  -- slices that passed are equally long and have room
-  pub results-ready : results_check n cs vs ds hs ≡ passed → Lent cs vs ds × (length hs ≡ length ds * 2) × (n ≤ length ds)
-  unfolding results_check headers_check room_check lengths_check
-  results-ready e =
-      let a = then-second (lengths_check cs vs ds) _ [] e in
-      let b = then-second (headers_check hs ds) _ [] a in
-      let t = and-true (eqb (length cs) (length vs)) (eqb (length cs) (length ds * 2)) (need-then _ 2 0 0 _ [] e) in
-      (record { values = sym (eqb_yes _ _ t.0); decisions = sym (eqb_yes _ _ t.1) }, eqb_yes _ _ (need-then _ 2 0 0 _ [] a), leb-true _ _ (need-passed _ 7 0 0 b))
+-- slices that passed are equally long and have room
+pub results-ready : (n : ℕ) (cs vs ds hs : List ℕ) → results_check n cs vs ds hs ≡ passed → Lent cs vs ds × (length hs ≡ length ds * 2) × (n ≤ length ds)
+unfolding results_check headers_check room_check lengths_check
+results-ready n cs vs ds hs e =
+    let a = then-second (lengths_check cs vs ds) _ [] e in
+    let b = then-second (headers_check hs ds) _ [] a in
+    let t = and-true (eqb (length cs) (length vs)) (eqb (length cs) (length ds * 2)) (need-then _ 2 0 0 _ [] e) in
+    (record { values = sym (eqb_yes _ _ t.0); decisions = sym (eqb_yes _ _ t.1) }, eqb_yes _ _ (need-then _ 2 0 0 _ [] a), leb-true _ _ (need-passed _ 7 0 0 b))
 
 -- ---- what the whole leaves
 
@@ -123,47 +91,44 @@ module _ (w : ℕ) (cs vs ds : List ℕ) (S : Sound w cs vs ds) (old : List Rule
 
 -- ---- the call
 
-module _ (w : ℕ) (cs vs ds ocs ovs ods hs : List ℕ) (v : Verdict) (checked : verdict_reply v ≡ check_list w 1 cs vs ds) where
-  prune-as : (x : Refusal) → prune_reply w cs vs ds ocs ovs ods hs ≡ refusal_reply x → PruneDone w cs vs ds ocs ovs ods hs ocs ovs ods hs (Pruned.Refused x)
-  prune-as x e = record {
-    reply = sym e;
-    cares = same-refused _ x _ ocs e;
-    values = same-refused _ x _ ovs e;
-    decisions = same-refused _ x _ ods e;
-    headers = same-refused _ x _ hs e;
+module _ (w : ℕ) (cs vs ds ocs ovs ods hs : List ℕ) where
+  -- a refusal that is passed up leaves the slices as they were
+  pub prune-refused : (r : Result Tally Refusal) (x : Refusal) → IsErrAnd r (λ y. y ≡ x) → prune_reply w cs vs ds ocs ovs ods hs ≡ refusal_reply x
+      → PruneDone w cs vs ds ocs ovs ods hs ocs ovs ods hs r
+  prune-refused r x e p = record {
+    reply = passed-up tally_values r x e ∙ sym p;
+    cares = same-refused _ x _ ocs p;
+    values = same-refused _ x _ ovs p;
+    decisions = same-refused _ x _ ods p;
+    headers = same-refused _ x _ hs p;
   }
 
-  -- the list's own refusal
-  pub prune-list : (x : Refusal) → v ≡ Verdict.Refused x → PruneDone w cs vs ds ocs ovs ods hs ocs ovs ods hs (Pruned.Refused x)
-  unfolding prune_reply
-  prune-list x e = prune-as x (refused-stop v _ _ checked e)
-
-  module _ (u : Verdict) (fine : v ≡ Verdict.Fine) (room : verdict_reply u ≡ results_check (length ds) ocs ovs ods hs) where
+  module _ (fine : passed ≡ check_list w 1 cs vs ds) where
     prune-rest : prune_reply w cs vs ds ocs ovs ods hs ≡ (results_check (length ds) ocs ovs ods hs then Gives (kept w (rules_of cs vs ds) ∷ dropped w (rules_of cs vs ds) ∷ []))
     unfolding prune_reply
-    prune-rest = fine-next v _ _ checked fine
+    prune-rest = then_next _ _ (sym fine)
 
     -- the result slices' refusal
-    pub prune-results : (x : Refusal) → u ≡ Verdict.Refused x → PruneDone w cs vs ds ocs ovs ods hs ocs ovs ods hs (Pruned.Refused x)
-    prune-results x e = prune-as x (prune-rest ∙ refused-stop u _ _ room e)
+    pub prune-results : (x : Refusal) → refusal_reply x ≡ results_check (length ds) ocs ovs ods hs → prune_reply w cs vs ds ocs ovs ods hs ≡ refusal_reply x
+    prune-results x e = prune-rest ∙ then-stop _ _ x (sym e)
 
-    module _ (good : u ≡ Verdict.Fine) where
+    module _ (room : passed ≡ results_check (length ds) ocs ovs ods hs) where
       sound : Sound w cs vs ds
-      sound = list-sound w 1 cs vs ds (verdict-passed v _ checked fine)
+      sound = list-sound w 1 cs vs ds (sym fine)
 
       results : Lent ocs ovs ods × (length hs ≡ length ods * 2) × (length ds ≤ length ods)
-      results = results-ready (length ds) ocs ovs ods hs (verdict-passed u _ room good)
+      results = results-ready (length ds) ocs ovs ods hs (sym room)
 
       pub prune-ready : Sound w cs vs ds × Lent ocs ovs ods × (length ds ≤ length ods) × (length hs ≡ length ods * 2)
       prune-ready = (sound, results.0, results.2, results.1)
 
       prune-all : prune_reply w cs vs ds ocs ovs ods hs ≡ Gives (kept w (rules_of cs vs ds) ∷ dropped w (rules_of cs vs ds) ∷ [])
-      prune-all = prune-rest ∙ fine-next u _ _ room good
+      prune-all = prune-rest ∙ then_next _ _ (sym room)
 
       -- the pruned list
       pub prune-given : (ocs' ovs' ods' hs' : List ℕ) (t : Tally) → Lent ocs' ovs' ods' → Machine ocs → Machine ovs → Machine hs → Machine ocs' → Machine ovs' → Machine hs'
           → Left w (rules_of cs vs ds) (rules_of ocs ovs ods) hs (rules_of ocs' ovs' ods') hs' t
-          → PruneDone w cs vs ds ocs ovs ods hs ocs' ovs' ods' hs' (Pruned.Done t)
+          → PruneDone w cs vs ds ocs ovs ods hs ocs' ovs' ods' hs' (Ok t)
       prune-given ocs' ovs' ods' hs' t l mc mv mh mc' mv' mh' L =
           record {
             reply = ap₂ (λ (a b : ℕ). Gives (a ∷ b ∷ [])) L.entries L.gone ∙ sym prune-all;

@@ -23,7 +23,7 @@ use Rattle.rules.proofs.CheckLaws.{list-sound, list-first}
 use Rattle.rules.proofs.AnswerLaws.{hit-exactly}
 use Rattle.compare.specs.Needed.{LowestChange}
 use Rattle.compare.proofs.NeededLaws.{change-first}
-use Rattle.pruning.specs.declared.Pruned.{Pruned}
+use Rattle.std.specs.Prelude.{Ok, Err}
 use Rattle.pruning.specs.declared.Tally.{Tally}
 use Rattle.pruning.specs.Prune.{prune, dropped, needed_headers}
 use Rattle.pruning.specs.Calls.{results_check, prune_reply, PruneDone}
@@ -42,7 +42,7 @@ kept_decisions t decisions = take t.kept decisions
 -- ---- pruning
 
 module _ (w : ℕ) (cs vs ds ocs ovs ods hs ocs' ovs' ods' hs' : List ℕ) (t : Tally)
-    (D : PruneDone w cs vs ds ocs ovs ods hs ocs' ovs' ods' hs' (Pruned.Done t)) where
+    (D : PruneDone w cs vs ds ocs ovs ods hs ocs' ovs' ods' hs' (Ok t)) where
   abbrev pruned : List Rule
   pruned = prune w (rules_of cs vs ds)
 
@@ -125,9 +125,9 @@ module _ (w : ℕ) (cs vs ds ocs ovs ods hs ocs' ovs' ods' hs' : List ℕ) (t : 
 
 -- A second call, on what the first one left, keeps every rule and drops none.
 pub pruned-again : (w : ℕ) (cs vs ds ocs ovs ods hs ocs' ovs' ods' hs' : List ℕ) (t : Tally)
-    → PruneDone w cs vs ds ocs ovs ods hs ocs' ovs' ods' hs' (Pruned.Done t)
+    → PruneDone w cs vs ds ocs ovs ods hs ocs' ovs' ods' hs' (Ok t)
     → (acs avs ads ahs acs' avs' ads' ahs' : List ℕ) (u : Tally)
-    → PruneDone w (kept_words t ocs') (kept_words t ovs') (kept_decisions t ods') acs avs ads ahs acs' avs' ads' ahs' (Pruned.Done u)
+    → PruneDone w (kept_words t ocs') (kept_words t ovs') (kept_decisions t ods') acs avs ads ahs acs' avs' ads' ahs' (Ok u)
     → (u.kept ≡ t.kept) × (u.dropped ≡ 0)
 pruned-again w cs vs ds ocs ovs ods hs ocs' ovs' ods' hs' t D acs avs ads ahs acs' avs' ads' ahs' u E =
     let p : rules_of (kept_words t ocs') (kept_words t ovs') (kept_decisions t ods') ≡ prune w (rules_of cs vs ds) = pruned-places w cs vs ds ocs ovs ods hs ocs' ovs' ods' hs' t D in
@@ -141,7 +141,7 @@ pruned-again w cs vs ds ocs ovs ods hs ocs' ovs' ods' hs' t D acs avs ads ahs ac
 
 -- A refused `prune` leaves the four result slices as they were.
 pub refused-leaves : (w : ℕ) (cs vs ds ocs ovs ods hs ocs' ovs' ods' hs' : List ℕ) (x : Refusal)
-    → PruneDone w cs vs ds ocs ovs ods hs ocs' ovs' ods' hs' (Pruned.Refused x)
+    → PruneDone w cs vs ds ocs ovs ods hs ocs' ovs' ods' hs' (Err x)
     → (ocs' ≡ ocs) × (ovs' ≡ ovs) × (ods' ≡ ods) × (hs' ≡ hs)
 refused-leaves w cs vs ds ocs ovs ods hs ocs' ovs' ods' hs' x D = (
   rw (sym D.reply) at D.cares,

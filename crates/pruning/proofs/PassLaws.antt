@@ -110,6 +110,3 @@ module _ (w : ℕ) (old : List Rule) (count : ℕ) where
   pass-rules cs vs ds left l P =
       let e : take left (rules_of cs vs ds) ≡ prune w (take count old) = P.same ∙ ap (λ (n : ℕ). pass_down w n (take count old)) (sym (length-take-le count old l)) in
       (e, sym (take-append-drop left (rules_of cs vs ds)) ∙ ap (λ (x : List Rule). x ++ drop left (rules_of cs vs ds)) e ∙ ap (λ (x : List Rule). prune w (take count old) ++ x) P.rest)
-
-  pub pass-end : (cs vs ds : List ℕ) (left k : ℕ) (none : k ≡ 0) → Passing w old count count cs vs ds left k → Passing w old count count cs vs ds left 0
-  pass-end cs vs ds left k e P = subst (Passing w old count count cs vs ds left) e P

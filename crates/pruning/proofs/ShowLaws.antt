@@ -1,18 +1,20 @@
 -- Laws of the headers put beside the rules, and of the rules put into the result slices, one after the other.
 use Prim.Native.Nat.{ℕ, zero, suc, ◌+◌, ◌-◌, ◌*◌, ◌/◌, ◌≤◌, ◌<◌}
-use mathlib.Core.Path.{◌≡◌, refl, sym, ap, ap₂, ◌∙◌, subst}
+use mathlib.Core.Path.{◌≡◌, refl, sym, ap, ap₂, ◌∙◌}
 use mathlib.Core.List.{List, [], ◌∷◌, ◌++◌, append_assoc}
 use native.Mathlib.Omega.{arith}
 use native.Mathlib.Numerals.{add-one}
 use lib.ListN.{length, take, drop, set, replicate, take-append-drop, length-append, length-drop}
-use lib.Seq.{set_split, take_at, drop-append-add, take-suc, take_all, drop-drop}
+use lib.Seq.{set_split, take_at, drop_at, drop-append-add, drop-drop, length-take-le}
 use Rattle.words.specs.declared.Word.{Word}
 use Rattle.words.specs.Halves.{num}
 use Rattle.words.specs.Slices.{words_of, halves_of, with_word}
 use Rattle.words.proofs.SliceLaws.{Machine, words-length, words-with, with-length, halves-words}
 use Rattle.rules.specs.Rule.{Rule}
-use Rattle.rules.specs.Slices.{rules_of, rule_at, blank, padded, Appends, Lent}
-use Rattle.rules.proofs.PaddedLaws.{appends-one, appends-more, halves-filled}
+use Rattle.rules.specs.Slices.{rules_of, padded, Lent}
+use Rattle.rules.proofs.ZipLaws.{ap₃}
+use Rattle.rules.proofs.SliceLaws.{rules-length, rules-take, rules-append}
+use Rattle.rules.proofs.PaddedLaws.{halves-filled}
 use Rattle.pruning.specs.Prune.{needed_header, headers_from, needed_headers}
 use Rattle.pruning.specs.Inner.{Shown, Copied}
 use Rattle.pruning.proofs.Theorems.{headers-length, headers-more}
@@ -47,24 +49,32 @@ module _ (w : ℕ) (rs : List Rule) (hs : List ℕ) where
         (ap (λ (y : ℕ). headers_from w rs k 0 ++ (y ∷ [])) (e ∙ ap (needed_header w rs) (let z : k ≡ 0 + k = omega arith in z)) ∙ sym (headers-more w rs k 0) ∙ ap (λ (n : ℕ). headers_from w rs n 0) (sym (add-one k))),
   )
 
-  pub shown-end : (l : List ℕ) (k n : ℕ) → k ≡ n → Shown w rs k hs l → Shown w rs n hs l
-  shown-end l k n e S = subst (λ (m : ℕ). Shown w rs m hs l) e S
-
 -- ---- rules
 
-module _ (rs old : List Rule) where
-  pub copied_more : (l new : List Rule) (k : ℕ) (r : Rule) → k < length rs → k < length l → r ≡ rule_at rs k → new ≡ set l k r
-      → Appends old l 0 k (take k rs) → Appends old new 0 (k + 1) (take (k + 1) rs)
-  copied_more l new k r h m e q A =
-      subst (Appends old new 0 (k + 1)) (ap (λ (x : Rule). take k rs ++ (x ∷ [])) e ∙ sym (take-suc rs k blank h) ∙ ap (λ (n : ℕ). take n rs) (sym (add-one k)))
-      (appends-more old l new 0 k (k + 1) (take k rs) (r ∷ []) A (appends-one l new k r m q))
+-- the rules from place n on
+rules-rest : (n m : ℕ) (c v d : List ℕ) → m ≡ n * 2 → Lent c v d → n ≤ length d → rules_of (drop m c) (drop m v) (drop n d) ≡ drop n (rules_of c v d)
+rules-rest n m c v d e l h =
+    let a = length-take-le m c (omega (arith, l.decisions)) in
+    let b = length-take-le m v (omega (arith, l.decisions, l.values)) in
+    let t = length-take-le n d h in
+    let long : length (rules_of (take m c) (take m v) (take n d)) ≡ n = ap length (rules-take n m c v d e) ∙ length-take-le n (rules_of c v d) (omega (arith, rules-length c v d l)) in
+    sym (drop_at (rules_of (take m c) (take m v) (take n d)) (rules_of (drop m c) (drop m v) (drop n d)) n long)
+    ∙ ap (drop n) (sym (rules-append (take m c) (take m v) (take n d) (drop m c) (drop m v) (drop n d) (record { values = b ∙ sym a; decisions = omega arith }))
+    ∙ ap₃ rules_of (take-append-drop m c) (take-append-drop m v) (take-append-drop n d))
 
-  pub copied-end : (cs vs ds : List ℕ) (k : ℕ) → k ≡ length rs → Lent cs vs ds → Appends old (rules_of cs vs ds) 0 k (take k rs) → Copied rs old cs vs ds
-  copied-end cs vs ds k e l A = record {
-    lent = l;
-    rules =
-        sym (take-append-drop k (rules_of cs vs ds)) ∙ ap₂ ◌++◌ (A.front ∙ take_all k rs (omega arith)) (A.back ∙ ap (λ (n : ℕ). drop n old) e);
-  }
+-- three slices of which the first places hold a list
+pub copied : (cs vs ds ocs ovs ods a b d : List ℕ) → Lent cs vs ds → Lent ocs ovs ods → length ds ≤ length ods → a ≡ cs → b ≡ vs → d ≡ ds
+    → Copied (rules_of cs vs ds) (rules_of ocs ovs ods) (a ++ drop (length cs) ocs) (b ++ drop (length vs) ovs) (d ++ drop (length ds) ods)
+copied cs vs ds ocs ovs ods a b d l o h p q r = rw (p, q, r) (record {
+  lent = record {
+    values = simp (length-append, length-drop) (omega (arith, l.values, l.decisions, o.values, o.decisions));
+    decisions = simp (length-append, length-drop) (omega (arith, l.values, l.decisions, o.values, o.decisions));
+  };
+  rules = rules-append cs vs ds _ _ _ l ∙ ap (λ (x : List Rule). rules_of cs vs ds ++ x)
+      (ap (λ (n : ℕ). rules_of (drop (length cs) ocs) (drop n ovs) (drop (length ds) ods)) l.values
+      ∙ rules-rest (length ds) (length cs) ocs ovs ods (sym l.decisions) o h
+      ∙ ap (λ (n : ℕ). drop n (rules_of ocs ovs ods)) (sym (rules-length cs vs ds l)));
+})
 
 -- ---- the slice of headers
 

@@ -1,17 +1,21 @@
 -- What pruning replies, and what it leaves in the slices lent for results (request 12; 01, Refusal numbers).
-use Rattle.std.specs.Prelude.{ℕ, ◌*◌, ◌≡◌, List, [], ◌∷◌, length, eqb}
+use Rattle.std.specs.Prelude.{ℕ, ◌*◌, ◌≡◌, List, [], ◌∷◌, length, eqb, Result}
 use Rattle.words.specs.Slices.{halves_of}
 use Rattle.rules.specs.Slices.{rules_of, cares_of, values_of, decisions_of, padded}
-use Rattle.rules.specs.Replies.{Reply, Gives, need, ◌then◌, refusal_reply, unless_refused}
+use Rattle.rules.specs.declared.Refusal.{Refusal}
+use Rattle.rules.specs.declared.RuleList.{RuleList}
+use Rattle.rules.specs.Replies.{Reply, Gives, need, ◌then◌, reply, unless_refused}
 use Rattle.rules.specs.Checks.{lengths_check, room_check}
 use Rattle.rules.specs.Calls.{check_list}
-use Rattle.pruning.specs.declared.Pruned.{Pruned}
+use Rattle.pruning.specs.declared.Tally.{Tally}
 use Rattle.pruning.specs.Prune.{prune, kept, dropped, needed_headers}
 
 -- Two values: entries kept, rules dropped.
-abbrev pub pruned_reply : Pruned → Reply
-pruned_reply (Pruned.Done t) = Gives (t.kept ∷ t.dropped ∷ [])
-pruned_reply (Pruned.Refused x) = refusal_reply x
+abbrev pub tally_values : Tally → List ℕ
+tally_values t = t.kept ∷ t.dropped ∷ []
+
+abbrev pub pruned_reply : Result Tally Refusal → Reply
+pruned_reply r = reply tally_values r
 
 -- Refusal 2: the slice of headers has not two numbers to each place of the decisions.
 unfoldable pub headers_check : (headers decisions : List ℕ) → Reply
@@ -21,6 +25,10 @@ headers_check hs ds = need (eqb (length hs) (length ds * 2)) 2 0 0
 unfoldable pub results_check : (n : ℕ) → (out_cares out_values out_decisions headers : List ℕ) → Reply
 results_check n ocs ovs ods hs = lengths_check ocs ovs ods then headers_check hs ods then room_check n (length ods)
 
+-- The same of three slices as they are lent.
+abbrev pub results_in : (n : ℕ) → RuleList → (headers : List ℕ) → Reply
+results_in n x hs = results_check n x.care.now x.value.now x.decision.now hs
+
 -- The list's checks, then those of the result slices; else the two counts.
 unfoldable pub prune_reply : ℕ → (cares values decisions out_cares out_values out_decisions headers : List ℕ) → Reply
 prune_reply w cs vs ds ocs ovs ods hs =
@@ -29,7 +37,7 @@ prune_reply w cs vs ds ocs ovs ods hs =
     then Gives (kept w (rules_of cs vs ds) ∷ dropped w (rules_of cs vs ds) ∷ [])
 
 -- What `prune` promises: its reply, and what stands in each result slice afterwards.
-pub record PruneDone (w : ℕ) (cs vs ds ocs ovs ods hs ocs' ovs' ods' hs' : List ℕ) (answer : Pruned) : Type 0 where
+pub record PruneDone (w : ℕ) (cs vs ds ocs ovs ods hs ocs' ovs' ods' hs' : List ℕ) (answer : Result Tally Refusal) : Type 0 where
   pub reply : pruned_reply answer ≡ prune_reply w cs vs ds ocs ovs ods hs
   pub cares : ocs'
       ≡ unless_refused (prune_reply w cs vs ds ocs ovs ods hs)
@@ -43,3 +51,7 @@ pub record PruneDone (w : ℕ) (cs vs ds ocs ovs ods hs ocs' ovs' ods' hs' : Lis
   pub headers : hs'
       ≡ unless_refused (prune_reply w cs vs ds ocs ovs ods hs)
       (padded (length ds * 2) (halves_of (needed_headers w (prune w (rules_of cs vs ds)))) hs) hs
+
+-- The same of a list as it is lent.
+abbrev pub PruneDoneIn : (w : ℕ) → RuleList → (ocs ovs ods hs ocs' ovs' ods' hs' : List ℕ) → Result Tally Refusal → Type 0
+PruneDoneIn w x ocs ovs ods hs ocs' ovs' ods' hs' answer = PruneDone w x.care.now x.value.now x.decision.now ocs ovs ods hs ocs' ovs' ods' hs' answer

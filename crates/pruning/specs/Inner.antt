@@ -7,6 +7,7 @@ use Rattle.rules.specs.Lists.{All}
 use Rattle.rules.specs.Replies.{passed}
 use Rattle.rules.specs.Checks.{width_check}
 use Rattle.rules.specs.Slices.{rules_of, blanks, Lent}
+use Rattle.rules.specs.declared.RuleList.{RuleList}
 use Rattle.pruning.specs.declared.Tally.{Tally}
 use Rattle.pruning.specs.Prune.{pass_down, prune, headers_from}
 
@@ -17,6 +18,10 @@ pub record Holds (w : ℕ) (cs vs ds : List ℕ) (count : ℕ) : Type 0 where
   pub inside : count ≤ length ds
   pub few : count ≤ 1024
   pub valid : All (Valid w) (take count (rules_of cs vs ds))
+
+-- The same of slices as they are lent.
+abbrev pub HoldsIn : ℕ → RuleList → (count : ℕ) → Type 0
+HoldsIn w x count = Holds w x.care.now x.value.now x.decision.now count
 
 -- Of the first `count` rules of `old` those at the positions from k up to n were gone through: `left` of them are left, and what the
 -- slices hold goes on to what the whole pass down from n makes of `old`. Rules of zeros stand in the places that became free.

@@ -5,6 +5,7 @@ ghost use Rattle.pruning.specs.Inner.{Holds, Passing};
 
 use crate::asking::needless;
 use removal::remove_rule;
+use rules::RuleList;
 
 // Takes the rule at position k out of the first `left` rules where it does nothing in the list of these, and answers how many are left then.
 fn drop_one(
@@ -19,7 +20,12 @@ fn drop_one(
     ensures { Passing width (rules_of care.old value.old decision.old) left (k + 1)
         care.new value.new decision.new result k }
 {
-    if needless(width, care, value, decision, left, k) {
+    let rules = RuleList {
+        care,
+        value,
+        decision,
+    };
+    if needless(width, rules, left, k) {
         remove_rule(care, value, decision, k, left);
         return left - 1;
     }
@@ -40,9 +46,7 @@ pub(crate) fn drop_all(
         care.new value.new decision.new result 0 }
 {
     let mut left = count;
-    let mut k = count;
-    while 0 < k {
-        k -= 1;
+    for k in (0..count).rev() {
         left = drop_one(width, care, value, decision, left, k);
     }
     left

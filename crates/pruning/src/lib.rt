@@ -6,7 +6,6 @@ mod dropping;
 mod showing;
 mod whole;
 
-use rules::Refusal;
 pub use whole::prune;
 
 // What pruning did: entries kept, and rules dropped.
@@ -14,11 +13,4 @@ pub use whole::prune;
 pub struct Tally {
     pub kept: usize,
     pub dropped: usize,
-}
-
-// What pruning answers.
-#[derive(Clone, Copy)]
-pub enum Pruned {
-    Done(Tally),
-    Refused(Refusal),
 }

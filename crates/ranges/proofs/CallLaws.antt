@@ -1,57 +1,32 @@
 -- Laws of the checks and of the two public calls: each refusal in turn, and from what the inner functions leave to what is promised.
-use mathlib.Core.Path.{◌≡◌, sym, ap, ◌∙◌}
+use mathlib.Core.Path.{◌≡◌, sym, ◌∙◌}
 use mathlib.Core.Logic.{◌↔◌}
-use mathlib.Core.List.{List, [], ◌∷◌}
+use mathlib.Core.List.{List, []}
 use mathlib.Core.Bool.{◌&&◌}
 use Prim.Native.Nat.{ℕ, ◌+◌, ◌^◌, ◌≤◌, ◌<◌}
 use native.Mathlib.Omega.{arith}
 use lib.Dec.{leb, ltb}
 use lib.ListN.{length}
 use lib.Pow.{pow_mono}
-use borrow.Author.Tests.{le-leb, lt-ltb, leb-true, ltb-true, ne_eqb}
-use Rattle.words.proofs.Tests.{never_true, true-and, and-true, yes_eqb, eqb_yes}
-use Rattle.rules.specs.declared.Refusal.{Refusal}
-use Rattle.rules.specs.declared.Verdict.{Verdict}
-use Rattle.rules.specs.Replies.{Reply, Gives, Refuses, passed, refusal_reply, verdict_reply, unless_refused}
-use Rattle.rules.proofs.ReplyLaws.{Bare, bare-first, bare-need, bare-then, need-yes, need-no, need-then, need-passed, then_next, then-refuses, then-second, fine-next, refused-stop, verdict-passed}
+use borrow.Author.Tests.{le-leb, lt-ltb, leb-true, ltb-true}
+use Rattle.words.proofs.Tests.{true-and, and-true, yes_eqb, eqb_yes}
+use Rattle.rules.specs.Replies.{Reply, Refuses, passed}
+use Rattle.rules.proofs.ReplyLaws.{Bare, bare-first, bare-need, bare-then, need-yes, need-then, need-passed, then_next, then-second}
 use Rattle.rules.proofs.CheckLaws.{room-yes, room-no, room-exactly}
-use Rattle.ranges.specs.declared.Covered.{Covered}
-use Rattle.ranges.specs.Prefixes.{care_word, value_word}
 use Rattle.ranges.specs.Ranges.{range_prefixes}
-use Rattle.ranges.specs.Inner.{PrefixesPut}
-use Rattle.ranges.specs.Calls.{widest_field, field_check, bounds_check, check_range, same_length_check, prefix_count_reply, prefixes_check, prefixes_reply, words_put, PrefixesDone}
+use Rattle.ranges.specs.Calls.{widest_field, field_check, bounds_check, check_range, same_length_check, prefixes_check}
 
 -- ---- the field and the range
-
-pub field-small : (b : ℕ) → b < 1 → field_check b ≡ Refuses 1 0 0
-unfolding field_check
-field-small b h = need-no _ 1 0 0 (never_true (λ t. let l : 1 ≤ b = leb-true _ _ (and-true (leb 1 b) (leb b widest_field) t).0 in omega arith))
-
-pub field-large : (b : ℕ) → widest_field < b → field_check b ≡ Refuses 1 0 0
-unfolding field_check
-field-large b h = need-no _ 1 0 0 (never_true (λ t. let l : b ≤ widest_field = leb-true _ _ (and-true (leb 1 b) (leb b widest_field) t).1 in omega arith))
 
 pub field-yes : (b : ℕ) → 1 ≤ b → b ≤ widest_field → field_check b ≡ passed
 unfolding field_check
 field-yes b l h = need-yes _ 1 0 0 (true-and (le-leb 1 b l) (le-leb b widest_field h))
-
-pub range-crossed : (b low high : ℕ) → high < low → bounds_check b low high ≡ Refuses 20 0 0
-unfolding bounds_check
-range-crossed b low high h = need-no _ 20 0 0 (never_true (λ t. let l : low ≤ high = leb-true _ _ (and-true (leb low high) (ltb high (2 ^ b)) t).0 in omega arith))
-
-pub range-outside : (b low high : ℕ) → 2 ^ b ≤ high → bounds_check b low high ≡ Refuses 20 0 0
-unfolding bounds_check
-range-outside b low high h = need-no _ 20 0 0 (never_true (λ t. let l : high < 2 ^ b = ltb-true _ _ (and-true (leb low high) (ltb high (2 ^ b)) t).1 in omega arith))
 
 pub range-yes : (b low high : ℕ) → low ≤ high → high < 2 ^ b → bounds_check b low high ≡ passed
 unfolding bounds_check
 range-yes b low high l h = need-yes _ 20 0 0 (true-and (le-leb low high l) (lt-ltb high (2 ^ b) h))
 
 -- ---- both, one after the other
-
-pub check-field : (b low high : ℕ) → field_check b ≡ Refuses 1 0 0 → check_range b low high ≡ Refuses 1 0 0
-unfolding check_range
-check-field b low high e = then-refuses _ _ e
 
 pub check-range : (b low high : ℕ) {a : Reply} → field_check b ≡ passed → bounds_check b low high ≡ a → check_range b low high ≡ a
 unfolding check_range
@@ -91,25 +66,11 @@ ranged-end b low high r = omega (arith, r.within)
 pub ranged-next : (b low high : ℕ) → GoodRange b low high → high + 1 ≤ 2 ^ widest_field
 ranged-next b low high r = let most : 2 ^ b ≤ 2 ^ widest_field = pow_mono r.few in omega (arith, most, r.within)
 
--- ---- the number alone
-
-module _ (b low high : ℕ) (v : Verdict) (checked : verdict_reply v ≡ check_range b low high) where
-  pub call-ranged : v ≡ Verdict.Fine → GoodRange b low high
-  call-ranged f = ranged b low high (verdict-passed v _ checked f)
-
-  pub count-refused : {x : Refusal} → v ≡ Verdict.Refused x → refusal_reply x ≡ prefix_count_reply b low high
-  unfolding prefix_count_reply
-  count-refused e = sym (refused-stop v _ _ checked e)
-
-  pub count-given : (n : ℕ) → v ≡ Verdict.Fine → n ≡ length (range_prefixes b low high) → Gives (n ∷ []) ≡ prefix_count_reply b low high
-  unfolding prefix_count_reply
-  count-given n f e = ap (λ (k : ℕ). Gives (k ∷ [])) e ∙ sym (fine-next v _ _ checked f)
+-- What the inner functions ask of a range, of one that passed.
+pub range_end : (b low high : ℕ) → passed ≡ check_range b low high → (b ≤ widest_field) × (high + 1 ≤ 2 ^ b) × (high + 1 ≤ 2 ^ widest_field)
+range_end b low high e = let r = ranged b low high (sym e) in (r.few, ranged-end b low high r, ranged-next b low high r)
 
 -- ---- the prefixes
-
-pub results-no : (cs vs : List ℕ) → (length cs ≡ length vs → ⊥) → same_length_check cs vs ≡ Refuses 2 0 0
-unfolding same_length_check
-results-no cs vs h = need-no _ 2 0 0 (ne_eqb _ _ h)
 
 pub results-yes : (cs vs : List ℕ) → length cs ≡ length vs → same_length_check cs vs ≡ passed
 unfolding same_length_check
@@ -117,10 +78,6 @@ results-yes cs vs e = need-yes _ 2 0 0 (yes_eqb _ _ e)
 
 module _ (b low high : ℕ) (cs vs : List ℕ) where
   -- each check of the slices, after a range that passed
-  pub check-results : check_range b low high ≡ passed → (length cs ≡ length vs → ⊥) → prefixes_check b low high cs vs ≡ Refuses 2 0 0
-  unfolding prefixes_check
-  check-results e h = then_next _ _ e ∙ then-refuses _ _ (results-no cs vs h)
-
   pub check-room : check_range b low high ≡ passed → length cs ≡ length vs → length cs < length (range_prefixes b low high)
       → prefixes_check b low high cs vs ≡ Refuses 7 0 0
   unfolding prefixes_check
@@ -142,25 +99,9 @@ module _ (b low high : ℕ) (cs vs : List ℕ) where
         (room-exactly _ _).0 (then-second (same_length_check cs vs) _ [] r),
       )
 
-  module _ (v : Verdict) (checked : verdict_reply v ≡ prefixes_check b low high cs vs) where
-    -- a refused call changes nothing
-    pub prefixes-refused : {x : Refusal} → v ≡ Verdict.Refused x → PrefixesDone b low high cs vs cs vs (Covered.Refused x)
-    unfolding prefixes_reply
-    prefixes-refused e =
-        let s = refused-stop v _ _ checked e in
-        record {
-          reply = sym s;
-          cares = sym (ap (λ (r : Reply). unless_refused r (words_put (care_word b) (range_prefixes b low high) cs) cs) s);
-          values = sym (ap (λ (r : Reply). unless_refused r (words_put value_word (range_prefixes b low high) vs) vs) s);
-        }
-
-    pub prefixes-given : (cs' vs' : List ℕ) (n : ℕ) → v ≡ Verdict.Fine → PrefixesPut b low (high + 1) cs vs cs' vs' n
-        → PrefixesDone b low high cs vs cs' vs' (Covered.Prefixes n)
-    unfolding prefixes_reply
-    prefixes-given cs' vs' n f p =
-        let all = fine-next v _ _ checked f in
-        record {
-          reply = ap (λ (i : ℕ). Gives (i ∷ [])) p.count ∙ sym all;
-          cares = p.cares ∙ sym (ap (λ (r : Reply). unless_refused r (words_put (care_word b) (range_prefixes b low high) cs) cs) all);
-          values = p.values ∙ sym (ap (λ (r : Reply). unless_refused r (words_put value_word (range_prefixes b low high) vs) vs) all);
-        }
+-- What the inner function asks of them.
+pub prefixes_end : (b low high : ℕ) (cs vs : List ℕ) → passed ≡ prefixes_check b low high cs vs
+    → (b ≤ widest_field) × (high + 1 ≤ 2 ^ b) × (high + 1 ≤ 2 ^ widest_field) × (length (range_prefixes b low high) ≤ length cs) × (length (range_prefixes b low high) ≤ length vs)
+prefixes_end b low high cs vs e =
+    let f = prefixes-facts b low high cs vs (sym e) in
+    (f.0.few, ranged-end b low high f.0, ranged-next b low high f.0, f.2, omega (arith, f.1, f.2))

@@ -1,16 +1,15 @@
 -- The prefixes of a range from its lowest number on: first the greatest prefix that starts there, then those of the rest.
 use mathlib.Core.Path.{◌≡◌, sym, ap, ap₂, ◌∙◌, subst}
 use mathlib.Core.List.{List, [], ◌∷◌, ◌++◌, map}
-use mathlib.Core.Bool.{Bool, true, false}
+use mathlib.Core.Bool.{true, false}
 use Prim.Native.Nat.{ℕ, zero, suc, ◌+◌, ◌-◌, ◌*◌, ◌%◌, ◌^◌, ◌≤◌, ◌<◌, min}
 use native.Mathlib.Omega.{arith}
 use native.Mathlib.Nat.{pow-suc, mod-eq_of_lt}
-use native.Mathlib.Numerals.{add-one}
 use lib.Dec.{eqb, leb, ltb}
 use lib.Pow.{pow_pos, pow_mono, pow-lt}
 use lib.ListN.{length}
-use borrow.Author.Tests.{le-leb, leb-true, leb-false, ltb-true, ltb-false, eq-eqb, ne_eqb}
-use Rattle.words.proofs.Tests.{split as by, true-and, and-true, and-on, and-off, true-false, never_true, eqb_yes, yes_eqb}
+use borrow.Author.Tests.{le-leb, leb-true, leb-false, ltb-true, ltb-false}
+use Rattle.words.proofs.Tests.{split as by, true-and, and-true, true-false, never_true, eqb_yes, yes_eqb}
 use Rattle.ranges.specs.Prefixes.{Prefix, prefix}
 use Rattle.ranges.specs.Ranges.{shifted, covering}
 use Rattle.ranges.specs.Inner.{opens, Widest}
@@ -36,17 +35,6 @@ pub facts-opens : (at end k : ℕ) → at % 2 ^ k ≡ 0 → at + 2 ^ k ≤ end �
 unfolding opens
 facts-opens at end k e h = true-and (yes_eqb _ _ e) (le-leb _ _ h)
 
--- the two tests in the code, of a size that is 2^k
-pub open-ends : (at end k s : ℕ) → s ≡ 2 ^ k → at % s ≡ 0 → leb (at + s) end ≡ opens at end k
-unfolding opens
-open-ends at end k s e h = ap (λ (x : ℕ). leb (at + x) end) e ∙ and-on (eq-eqb _ _ (ap (λ (x : ℕ). at % x) (sym e) ∙ h))
-
-pub open-between : (at end k s : ℕ) → s ≡ 2 ^ k → (at % s ≡ 0 → ⊥) → eqb (at % s) 0 ≡ opens at end k
-unfolding opens
-open-between at end k s e h =
-    let n : eqb (at % 2 ^ k) 0 ≡ false = ne_eqb _ _ (λ z. h (ap (λ (x : ℕ). at % x) e ∙ z)) in
-    ne_eqb _ _ h ∙ and-off _ n
-
 pub widest-greatest : (low end k : ℕ) → Widest low end k → Greatest low end k
 widest-greatest low end k w =
     let f = opens-facts low end k w.opened in
@@ -65,13 +53,9 @@ open-past b at end h =
     let s : 0 < 2 ^ b = pow_pos b in
     never_true (λ t. omega (arith, (opens-facts at end (suc b) t).1))
 
--- so many stars where the next number of stars cannot
-pub widest-here : (at end k : ℕ) (r : Bool) → opens at end k ≡ true → r ≡ opens at end (k + 1) → r ≡ false → Widest at end k
-widest-here at end k r o e f = record { opened = o; full = ap (opens at end) (sym (add-one k)) ∙ sym e ∙ f }
-
 -- as many as the field has bits
-pub widest-last : (b at end k : ℕ) → k ≡ b → end ≤ 2 ^ b → opens at end k ≡ true → Widest at end k
-widest-last b at end k e h o = record { opened = o; full = ap (λ (x : ℕ). opens at end (suc x)) e ∙ open-past b at end h }
+pub widest-last : (b at end k : ℕ) → k ≡ b → end ≤ 2 ^ b → opens at end k ≡ true → Widest at end b
+widest-last b at end k e h o = record { opened = ap (opens at end) (sym e) ∙ o; full = open-past b at end h }
 
 -- ---- a range that is the whole field
 

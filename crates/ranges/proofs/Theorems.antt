@@ -14,14 +14,14 @@ use Rattle.words.proofs.Tests.{split as by, same_test}
 use Rattle.rules.specs.declared.Refusal.{Refusal}
 use Rattle.rules.specs.Rules.{rule, choose, matches, no_match, Valid}
 use Rattle.rules.specs.Lists.{All, Pairs}
-use Rattle.rules.specs.Replies.{Reply, Gives, Refuses, passed, need, ◌then◌, unless_refused}
+use Rattle.std.specs.Prelude.{Ok, Err}
+use Rattle.rules.specs.Replies.{Reply, Gives, Refuses, passed, need, ◌then◌, number_of, number_reply, unless_refused}
 use Rattle.rules.specs.Checks.{room_check}
 use Rattle.rules.proofs.ReplyLaws.{gives-refuses, then_next, then-refuses, then-second, bare-first, one_value}
 use Rattle.rules.proofs.CheckLaws.{room-yes}
-use Rattle.ranges.specs.declared.Covered.{Covered}
 use Rattle.ranges.specs.Prefixes.{Prefix, PrefixIn, care_word, value_word, prefix_matches, matching, in_range, CoversExactly, Before}
 use Rattle.ranges.specs.Ranges.{covering, range_prefixes}
-use Rattle.ranges.specs.Calls.{covered_reply, widest_field, field_check, bounds_check, check_range, same_length_check, prefix_count_reply, prefixes_check, prefixes_reply, words_put, PrefixesDone}
+use Rattle.ranges.specs.Calls.{widest_field, field_check, bounds_check, check_range, same_length_check, prefix_count_reply, prefixes_check, prefixes_reply, words_put, PrefixesDone}
 use Rattle.ranges.proofs.PrefixLaws.{blocks, under-care, care-fits, inside, inside-choose, inside-exactly, inside-late, held-past, matching-held, held}
 use Rattle.ranges.proofs.RangeLaws.{range-fits, range-once, range-rising}
 use Rattle.ranges.proofs.FewLaws.{range-few, all-but-both}
@@ -159,15 +159,15 @@ never-seven b low high cs vs room = nor-next (prefixes_check b low high cs vs) _
         (λ s. room-not-seven _ _ (omega (arith, room, range-at-most b low high p))))
 
 -- so of the call: a refusal that it gives is another one
-pub call-never-seven : (b low high : ℕ) (cs vs cs' vs' : List ℕ) (x : Refusal) → PrefixesDone b low high cs vs cs' vs' (Covered.Refused x)
-    → max 1 (b * 2 - 2) ≤ length cs → x.number ≡ 7 → ⊥
+pub call-never-seven : (b low high : ℕ) (cs vs cs' vs' : List ℕ) (x : Refusal) → PrefixesDone b low high cs vs cs' vs' (Err x)
+    → max 1 (b * 2 - 2) ≤ length cs → number_of x.reason ≡ 7 → ⊥
 call-never-seven b low high cs vs cs' vs' x d room e =
     never-seven b low high cs vs room x.list x.rule (sym d.reply ∙ ap (λ (n : ℕ). Refuses n x.list x.rule) e)
 
 -- ---- the number first, and then the prefixes
 
 -- What `range_prefix_count` answers is the number of the range's prefixes.
-pub count-told : (b low high n : ℕ) → covered_reply (Covered.Prefixes n) ≡ prefix_count_reply b low high → (check_range b low high ≡ passed) × (n ≡ length (range_prefixes b low high))
+pub count-told : (b low high n : ℕ) → number_reply (Ok n) ≡ prefix_count_reply b low high → (check_range b low high ≡ passed) × (n ≡ length (range_prefixes b low high))
 unfolding prefix_count_reply
 count-told b low high n e = (
   bare-first (check_range b low high) _ (bare-range b low high) (n ∷ []) (sym e),
@@ -175,14 +175,14 @@ count-told b low high n e = (
 )
 
 -- With so many places in both slices `range_prefixes` answers the same number, and with fewer it is refused 7.
-pub counted-answered : (b low high n : ℕ) (cs vs : List ℕ) → covered_reply (Covered.Prefixes n) ≡ prefix_count_reply b low high
+pub counted-answered : (b low high n : ℕ) (cs vs : List ℕ) → number_reply (Ok n) ≡ prefix_count_reply b low high
     → length cs ≡ length vs → n ≤ length cs → prefixes_reply b low high cs vs ≡ Gives (n ∷ [])
 unfolding prefixes_reply
 counted-answered b low high n cs vs e s r =
     let t = count-told b low high n e in
     then_next _ _ (check-prefixes b low high cs vs t.0 s (omega (arith, r, t.1))) ∙ ap (λ (k : ℕ). Gives (k ∷ [])) (sym t.1)
 
-pub counted-refused : (b low high n : ℕ) (cs vs : List ℕ) → covered_reply (Covered.Prefixes n) ≡ prefix_count_reply b low high
+pub counted-refused : (b low high n : ℕ) (cs vs : List ℕ) → number_reply (Ok n) ≡ prefix_count_reply b low high
     → length cs ≡ length vs → length cs < n → prefixes_reply b low high cs vs ≡ Refuses 7 0 0
 unfolding prefixes_reply
 counted-refused b low high n cs vs e s r =
@@ -207,7 +207,7 @@ put_back : (f : Prefix → ℕ) (ps : List Prefix) (old : List ℕ) (n : ℕ) �
 unfolding words_put
 put_back f ps old n e = drop_at (map f ps) (drop (length ps) old) n (length-map ps f ∙ sym e) ∙ ap (λ (k : ℕ). drop k old) (sym e)
 
-pub prefixes-written : (b low high : ℕ) (cs vs cs' vs' : List ℕ) (n : ℕ) → PrefixesDone b low high cs vs cs' vs' (Covered.Prefixes n) → PrefixesWritten b low high cs vs cs' vs' n
+pub prefixes-written : (b low high : ℕ) (cs vs cs' vs' : List ℕ) (n : ℕ) → PrefixesDone b low high cs vs cs' vs' (Ok n) → PrefixesWritten b low high cs vs cs' vs' n
 unfolding prefixes_reply
 prefixes-written b low high cs vs cs' vs' n d =
     let said : prefixes_reply b low high cs vs ≡ Gives (n ∷ []) = sym d.reply in

@@ -1,15 +1,10 @@
 -- What the two public calls reply, and what stands in the lent slices afterwards (request 01).
-use Rattle.std.specs.Prelude.{◌≡◌, List, [], ◌∷◌, ◌++◌, map, Bool, ◌&&◌, ℕ, ◌^◌, eqb, leb, ltb, length, drop}
-use Rattle.rules.specs.Replies.{Reply, Gives, need, ◌then◌, refusal_reply, unless_refused}
+use Rattle.std.specs.Prelude.{◌≡◌, Result, List, [], ◌∷◌, ◌++◌, map, Bool, ◌&&◌, ℕ, ◌^◌, eqb, leb, ltb, length, drop}
+use Rattle.rules.specs.declared.Refusal.{Refusal}
+use Rattle.rules.specs.Replies.{Reply, Gives, need, ◌then◌, number_reply, unless_refused}
 use Rattle.rules.specs.Checks.{room_check}
-use Rattle.ranges.specs.declared.Covered.{Covered}
 use Rattle.ranges.specs.Prefixes.{Prefix, care_word, value_word}
 use Rattle.ranges.specs.Ranges.{range_prefixes}
-
--- One value, the number of prefixes.
-abbrev pub covered_reply : Covered → Reply
-covered_reply (Covered.Prefixes n) = Gives (n ∷ [])
-covered_reply (Covered.Refused x) = refusal_reply x
 
 -- The greatest number of bits of a field. This is the one definition that names it.
 abbrev pub widest_field : ℕ
@@ -55,8 +50,8 @@ unfoldable pub words_put : (Prefix → ℕ) → List Prefix → (old : List ℕ)
 words_put f ps old = map f ps ++ drop (length ps) old
 
 -- What `range_prefixes` promises: its reply, and what stands in each result slice afterwards.
-pub record PrefixesDone (b low high : ℕ) (cs vs cs' vs' : List ℕ) (answer : Covered) : Type 0 where
-  pub reply : covered_reply answer ≡ prefixes_reply b low high cs vs
+pub record PrefixesDone (b low high : ℕ) (cs vs cs' vs' : List ℕ) (answer : Result ℕ Refusal) : Type 0 where
+  pub reply : number_reply answer ≡ prefixes_reply b low high cs vs
   pub cares : cs'
       ≡ unless_refused (prefixes_reply b low high cs vs) (words_put (care_word b) (range_prefixes b low high) cs) cs
   pub values : vs'

@@ -4,11 +4,3 @@
 mod ranges;
 
 pub use ranges::{range_prefix_count, range_prefixes};
-use rules::Refusal;
-
-// How many prefixes a range takes.
-#[derive(Clone, Copy)]
-pub enum Covered {
-    Prefixes(usize),
-    Refused(Refusal),
-}

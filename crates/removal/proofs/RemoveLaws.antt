@@ -2,15 +2,14 @@
 use mathlib.Core.Path.{◌≡◌, refl, sym, ap, ap₂, ◌∙◌, subst}
 use mathlib.Core.Logic.{◌↔◌}
 use mathlib.Core.List.{List, [], ◌∷◌, ◌++◌, map}
-use mathlib.Core.Bool.{Bool, true, false}
-use Prim.Native.Nat.{ℕ, zero, suc, ◌+◌, ◌-◌, ◌*◌, ◌≤◌, ◌<◌}
+use mathlib.Core.Bool.{Bool, true}
+use Prim.Native.Nat.{ℕ, zero, suc, ◌+◌, ◌-◌, ◌≤◌, ◌<◌}
 use native.Mathlib.Omega.{arith}
 use native.Mathlib.Numerals.{add-one}
-use lib.Dec.{leb, ltb, eqb}
 use lib.ListN.{length, get_or, take, drop, set, length-append, length-drop, length-map}
 use lib.Seq.{take-nil, get_or-drop, take-suc, take-suc-set, drop-set-lt, drop-drop, set_split, length-take-le, take_at, drop-append-add}
-use borrow.Author.Tests.{lt-ltb, ltb-true, le-ltb, leb-true, le-leb, eq-eqb, ne_eqb}
-use Rattle.words.proofs.Tests.{split, and-true, and-on, and-off, eqb_yes}
+use Rattle.std.proofs.lemmas.Bool.Decides.{nat_tests}
+use Rattle.words.proofs.Tests.{split}
 use Rattle.words.proofs.SliceLaws.{Machine, halves-length}
 use Rattle.rules.specs.declared.Rule.{Rule as Held}
 use Rattle.rules.specs.Rule.{Rule, rule_of}
@@ -95,9 +94,6 @@ pub shifted-put : (old l new : List Rule) (r : Rule) (i k : ℕ) → i ≤ k →
 shifted-put old l new r i k h n e s q d =
     subst (λ (x : List Rule). Shifted old x i (k + 1)) (sym (d ∙ ap (set l k) q)) (shifted-more old l i k h n e s)
 
-pub shifted_end : (old l : List Rule) (i k m : ℕ) → k ≡ m → Shifted old l i k → Shifted old l i m
-shifted_end old l i k m e s = subst (Shifted old l i) e s
-
 -- ---- the rules after one was taken out
 
 module _ (i count : ℕ) (rs : List Rule) (some : i < count) (fits : count ≤ length rs) where
@@ -143,49 +139,16 @@ module _ (i count : ℕ) (rs : List Rule) (some : i < count) (fits : count ≤ l
 -- ---- whether a rule can be taken out
 
 module _ (cs vs ds : List ℕ) (i count : ℕ) where
-  pub removable-values : (length cs ≡ length vs → ⊥) → false ≡ removable cs vs ds i count
-  unfolding removable
-  removable-values n = and-off _ (ne_eqb _ _ n)
-
-  pub removable-decisions : length cs ≡ length vs → (length cs ≡ length ds * 2 → ⊥) → false ≡ removable cs vs ds i count
-  unfolding removable
-  removable-decisions e n = and-off _ (ne_eqb _ _ n) ∙ and-on (eq-eqb _ _ e)
-
-  pub removable-past : length cs ≡ length vs → length cs ≡ length ds * 2 → count ≤ i → false ≡ removable cs vs ds i count
-  unfolding removable
-  removable-past e f h = and-off _ (le-ltb _ _ h) ∙ and-on (eq-eqb _ _ f) ∙ and-on (eq-eqb _ _ e)
-
-  pub removable-count : length cs ≡ length vs → length cs ≡ length ds * 2 → i < count → leb count (length ds) ≡ removable cs vs ds i count
-  unfolding removable
-  removable-count e f h = and-on (lt-ltb _ _ h) ∙ and-on (eq-eqb _ _ f) ∙ and-on (eq-eqb _ _ e)
-
-  removable-told : removable cs vs ds i count ≡ true → Lent cs vs ds × (i < count) × (count ≤ length ds)
-  unfolding removable
-  removable-told e =
-      let a = and-true (eqb (length cs) (length vs)) _ e in
-      let b = and-true (eqb (length cs) (length ds * 2)) _ a.1 in
-      let c = and-true (ltb i count) _ b.1 in (
-        record { values = sym (eqb_yes _ _ a.0); decisions = sym (eqb_yes _ _ b.0) },
-        ltb-true _ _ c.0,
-        leb-true _ _ c.1,
-      )
-
   -- Rule i can be taken out of the first `count` exactly when the slices belong together, it is one of them, and there are so many.
   pub removable-exactly : (removable cs vs ds i count ≡ true) ↔ (Lent cs vs ds × (i < count) × (count ≤ length ds))
-  removable-exactly =
-      (removable-told, (λ p. sym (removable-count (sym p.0.values) (sym p.0.decisions) p.1) ∙ le-leb _ _ p.2))
+  unfolding removable
+  removable-exactly = ((λ e. grind (arith, nat_tests)), (λ p. grind (arith, nat_tests)))
 
 -- ---- what three slices hold afterwards
 
 module _ (cs vs ds : List ℕ) (i count : ℕ) where
   abbrev left : List Rule
   left = taken_out i count (rules_of cs vs ds)
-
-  -- a rule that cannot be taken out
-  pub removed-no : (t : Bool) → t ≡ removable cs vs ds i count → t ≡ false → Removed cs vs ds i count cs vs ds
-  removed-no t f g =
-      let e : removable cs vs ds i count ≡ false = sym f ∙ g in
-      record { cares = sym (choosing-no e _ cs); values = sym (choosing-no e _ vs); decisions = sym (choosing-no e _ ds) }
 
   -- slices that hold the rules that are left
   removed-as : (cs' vs' ds' : List ℕ) → removable cs vs ds i count ≡ true → Lent cs' vs' ds' → Machine cs' → Machine vs'

@@ -3,83 +3,59 @@ ghost use Rattle.std.specs.Prelude.{◌≡◌};
 ghost use Rattle.words.specs.Halves.{num};
 ghost use Rattle.rules.specs.Rule.{rule_of};
 ghost use Rattle.rules.specs.Rules.{matches};
-ghost use Rattle.rules.specs.Slices.{rules_of, Lent};
+ghost use Rattle.rules.specs.Slices.{rules_in, LentIn};
 ghost use Rattle.rules.specs.Replies.{looked_reply};
-ghost use Rattle.rules.specs.Calls.{looked_up};
+ghost use Rattle.rules.specs.Calls.{looked_in};
 ghost use Rattle.rules.specs.Found.{FirstAt};
 
-use crate::checks::check_list;
+use crate::checks::{check_header, check_list};
 use crate::slices::rule_at;
-use crate::{Hit, Looked, Refusal, Rule, Verdict, Wire};
+use crate::{Hit, Refusal, Rule, RuleList, Wire};
 use words::Word;
 
 // Whether the header has the rule's value where the rule cares.
 fn rule_matches(rule: Rule, header: Word) -> bool
     ensures { result ≡ matches (rule_of rule) (num header) }
 {
-    words::same(bits::and(header, rule.care), rule.value)
+    header & rule.care == rule.value
 }
 
 // Where the first matching rule stands, counted from 0.
-#[derive(Clone, Copy)]
-pub(crate) enum FirstMatch {
-    At(usize),
-    Nothing,
-}
-
-// The first rule that matches.
-pub(crate) fn first_match(care: &[u64], value: &[u64], decision: &[u16], header: Word) -> FirstMatch
-    requires { Lent care.now value.now decision.now }
-    ensures { FirstAt (rules_of care.now value.now decision.now) (num header) result }
+pub(crate) fn first_match(rules: RuleList, header: Word) -> Option<usize>
+    requires { LentIn rules }
+    ensures { FirstAt (rules_in rules.entry) (num header) result }
 {
-    let mut i: usize = 0;
-    while i < decision.len() {
-        if rule_matches(rule_at(care, value, decision, i), header) {
-            return FirstMatch::At(i);
+    for i in 0..rules.decision.len() {
+        if rule_matches(rule_at(rules, i), header) {
+            return Some(i);
         }
-        i += 1;
     }
-    FirstMatch::Nothing
+    None
 }
 
 // Looks a header up that is given as its number, for the calls on headers of either order: the checks of the list, then 6;
 // else the number of the first matching rule, from 1, and its decision.
-pub fn lookup_number(
-    width: u32,
-    care: &[u64],
-    value: &[u64],
-    decision: &[u16],
-    header: Word,
-) -> Looked
+pub fn lookup_number(width: u32, rules: RuleList, header: Word) -> Result<Option<Hit>, Refusal>
     ensures { looked_reply result
-        ≡ looked_up width care.now value.now decision.now (num header) }
+        ≡ looked_in width rules.entry (num header) }
 {
-    let v = check_list(width, care, value, decision);
-    if let Verdict::Refused(x) = v {
-        return Looked::Refused(x);
-    }
-    if words::below(header, width) {
-        let FirstMatch::At(i) = first_match(care, value, decision, header) else {
-            return Looked::Miss;
-        };
-        let number = i + 1;
-        let rule = rule_at(care, value, decision, i);
-        return Looked::Hit(Hit {
-            number,
-            decision: rule.decision,
-        });
-    }
-    Looked::Refused(Refusal {
-        number: 6,
-        list: 0,
-        rule: 0,
-    })
+    check_list(width, rules)?;
+    check_header(width, header)?;
+    let Some(i) = first_match(rules, header) else {
+        return Ok(None);
+    };
+    let number = i + 1;
+    let rule = rule_at(rules, i);
+    Ok(Some(Hit {
+        number,
+        decision: rule.decision,
+    }))
 }
 
 // Looks a header in wire order up.
-pub fn lookup(width: u32, care: &[u64], value: &[u64], decision: &[u16], header: Wire) -> Looked
+pub fn lookup(width: u32, rules: RuleList, header: Wire) -> Result<Option<Hit>, Refusal>
     ensures { looked_reply result
-        ≡ looked_up width care.now value.now decision.now (num header.0) }
+        ≡ looked_in width rules.entry (num header.0) }
 {
-    lookup_number(width, care, value, decision, header.0)
+    lookup_number(width, rules, header.0)
 }

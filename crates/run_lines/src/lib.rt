@@ -6,6 +6,7 @@ mod lines;
 mod showing;
 
 use compare::Compared;
+use rules::Refusal;
 pub use showing::{show_files, show_first, show_lists};
 
 // What comparing two files answers: how many bytes of each were read, and the comparison of these.
@@ -13,5 +14,5 @@ pub use showing::{show_files, show_first, show_lists};
 pub struct FilesCompared {
     pub old: usize,
     pub new: usize,
-    pub compared: Compared,
+    pub compared: Result<Compared, Refusal>,
 }

@@ -1,10 +1,7 @@
 // The lines: each function writes what it answers, so that what a call promises of its answer holds of the lines that it wrote.
-ghost use Rattle.std.specs.Prelude.{◌≡◌};
-ghost use Rattle.compare.specs.declared.Ending.{Ending};
+ghost use Rattle.std.specs.Prelude.{◌≡◌, Some, None};
 
-use compare::Ending;
 use host::{say, say_number};
-use image::NumberAnswer;
 use rules::Wire;
 use std::io::Print;
 use words::Word;
@@ -21,13 +18,10 @@ fn answer(rt: &impl Print, a: u16) {
 // A header, of up to 39 digits.
 fn header(rt: &impl Print, h: Word) {
     let mut digits = [0u8; 39];
-    let n = text::write_number(h, &mut digits);
-    start_of(rt, &digits, n);
-}
-
-fn start_of(rt: &impl Print, s: &[u8], n: usize) {
-    if n <= s.len() {
-        say(rt, &s[..n]);
+    if let Some(n) = text::write_number(h, &mut digits) {
+        if n <= digits.len() {
+            say(rt, &digits[..n]);
+        }
     }
 }
 
@@ -68,48 +62,44 @@ pub(crate) fn runs(
 ) -> usize
     ensures { result ≡ count }
 {
-    let mut i = 0;
-    while i < count {
+    for i in 0..count {
         run_at(rt, first, last, old, new, i);
-        i += 1;
     }
-    i
+    count
 }
 
 pub(crate) fn width(rt: &impl Print, image: &[u8]) {
-    let w = image::width(image);
-    if let NumberAnswer::Number(n) = w {
+    if let Ok(n) = image::width(image) {
         say(rt, b"width ");
         say_number(rt, n as u64);
         say(rt, b"\n");
     }
 }
 
-fn finished(rt: &impl Print, count: usize) -> Ending
-    ensures { result ≡ Ending.Finished }
+fn finished(rt: &impl Print, count: usize) -> Option<Wire>
+    ensures { result ≡ None }
 {
     say(rt, b"runs ");
     say_number(rt, count as u64);
     say(rt, b"\n");
-    Ending::Finished
+    None
 }
 
-fn more(rt: &impl Print, next: Wire) -> Ending
-    ensures { result ≡ Ending.More next }
+fn more(rt: &impl Print, next: Wire) -> Option<Wire>
+    ensures { result ≡ Some next }
 {
     say(rt, b"more ");
     header(rt, next.0);
     say(rt, b"\n");
-    Ending::More(next)
+    Some(next)
 }
 
-// The last line, and what it says.
-pub(crate) fn ended(rt: &impl Print, ending: Ending, count: usize) -> Ending
-    ensures { result ≡ ending }
+// The last line, and what it says: where more is to come from, if there is more.
+pub(crate) fn ended(rt: &impl Print, next: Option<Wire>, count: usize) -> Option<Wire>
+    ensures { result ≡ next }
 {
-    match ending {
-        Ending::Finished => finished(rt, count),
-        Ending::More(h) => more(rt, h),
-        Ending::Refused(x) => Ending::Refused(x),
+    match next {
+        None => finished(rt, count),
+        Some(h) => more(rt, h),
     }
 }

@@ -4,11 +4,11 @@ ghost use Rattle.words.specs.Halves.{num};
 ghost use Rattle.run_lines.specs.Shown.{FirstShown, ListsShown, FilesShown};
 
 use crate::{FilesCompared, lines};
-use compare::{Compared, Ending};
-use compare_check::Default;
-use rules::Wire;
+use compare::Compared;
+use rules::{Refusal, Wire};
 use std::io::Print;
 use std::rt::Files;
+use words::Word;
 
 // Room for so many runs.
 const ROOM: usize = 1000;
@@ -24,29 +24,26 @@ fn show(
     last: &[u64],
     old_answer: &[u16],
     new_answer: &[u16],
-    c: Compared,
-) -> Compared
-    ensures { result ≡ c }
+    compared: Result<Compared, Refusal>,
+) -> Result<Compared, Refusal>
+    ensures { result ≡ compared }
 {
-    let ending = c.ending;
-    if let Ending::Refused(_) = ending {
-        return c;
-    }
+    let c = compared?;
     lines::width(rt, old);
     let count = lines::runs(rt, first, last, old_answer, new_answer, c.count);
-    let end = lines::ended(rt, ending, count);
-    Compared { count, ending: end }
+    let next = lines::ended(rt, c.next, count);
+    Ok(Compared { count, next })
 }
 
 // The lines of the comparison of the first lists of two images, each with its default, from a header on.
 pub fn show_first(
     rt: &impl Print,
     old: &[u8],
-    old_default: Default,
+    old_default: Option<u16>,
     new: &[u8],
-    new_default: Default,
+    new_default: Option<u16>,
     start: Wire,
-) -> Compared
+) -> Result<Compared, Refusal>
     ensures { FirstShown old.now old_default new.now new_default (num start.0) result }
 {
     let mut first = [0u64; NUMBERS];
@@ -73,12 +70,12 @@ pub fn show_lists(
     rt: &impl Print,
     old: &[u8],
     old_id: u16,
-    old_default: Default,
+    old_default: Option<u16>,
     new: &[u8],
     new_id: u16,
-    new_default: Default,
+    new_default: Option<u16>,
     start: Wire,
-) -> Compared
+) -> Result<Compared, Refusal>
     ensures { ListsShown old.now old_id old_default new.now new_id new_default (num start.0) result }
 {
     let mut first = [0u64; NUMBERS];
@@ -127,10 +124,10 @@ pub fn show_files(
     let compared = show_first(
         rt,
         &old[..m],
-        Default::Absent,
+        None,
         &new[..n],
-        Default::Absent,
-        Wire(words::wide(0)),
+        None,
+        Wire(Word::from(0)),
     );
     FilesCompared {
         old: m,

@@ -1,17 +1,18 @@
 // Bit-swaps: moving rules and headers, the inverse, and one swap after another. Only this module makes a header in
 // swapped order, and only by a swap.
-ghost use Rattle.std.specs.Prelude.{◌≡◌, true, ◌≤◌, ◌<◌, ◌^◌};
+ghost use Rattle.std.specs.Prelude.{◌≡◌, true, ◌≤◌, ◌<◌, ◌^◌, take};
 ghost use Rattle.words.specs.Words.{place_bit};
 ghost use Rattle.words.specs.Halves.{num, halves};
-ghost use Rattle.rules.specs.Rule.{rule_of};
+ghost use Rattle.rules.specs.Rule.{rule_of, held};
 ghost use Rattle.rules.specs.Checks.{widest};
 ghost use Rattle.rules.specs.Replies.{verdict_reply, looked_reply};
-ghost use Rattle.rules.specs.Calls.{looked_up};
-ghost use Rattle.swaps.specs.Swaps.{moved, times, seat, entry_good, good, inverse, composed};
-ghost use Rattle.swaps.specs.SwapCalls.{moved_rule_answer, to_swapped_answer, to_wire_answer, swap_of, no_swap, SwapGiven, places_check, check_swap, check_swap_rule, check_swap_header, check_swaps, applied_rule, applied_header, undone_header, inverted, joined};
+ghost use Rattle.rules.specs.Calls.{looked_in};
+ghost use Rattle.swaps.specs.Swaps.{moved, moved_rule, times, entry_good, good, inverse, composed};
+ghost use Rattle.swaps.specs.SwapCalls.{SwapGiven, places_check, check_swap, check_swap_rule, check_swap_header, check_swaps, inverted, joined};
 
 use rules::{
-    Looked, Refusal, Rule, Verdict, Wire, check_rule, check_width, lookup_number, refused,
+    Hit, Reason, Refusal, Rule, RuleList, Wire, check_header, check_rule, check_width,
+    lookup_number, refused,
 };
 use words::Word;
 
@@ -26,354 +27,228 @@ pub struct Swap {
     pub width: u32,
 }
 
-// What moving a rule gives.
-#[derive(Clone, Copy)]
-pub enum MovedRule {
-    Moved(Rule),
-    Refused(Refusal),
-}
-
-// What moving a header into swapped order gives.
-#[derive(Clone, Copy)]
-pub enum ToSwapped {
-    Header(Swapped),
-    Refused(Refusal),
-}
-
-// What moving a header back into wire order gives.
-#[derive(Clone, Copy)]
-pub enum ToWire {
-    Header(Wire),
-    Refused(Refusal),
-}
-
-// A call that hands back a swap: beside a refusal the swap is all zeros.
-#[derive(Clone, Copy)]
-pub struct SwapAnswer {
-    pub verdict: Verdict,
-    pub swap: Swap,
-}
-
-// A place number as a number to count with.
-fn wide(x: u8) -> usize
-    ensures { result ≡ x }
-{
-    x as usize
-}
-
-// The bit of a word at a place.
-fn bit_at(width: u32, word: Word, place: u8) -> u64
-    requires { (1 ≤ place) × (place ≤ width) × (width ≤ widest) }
+// The bit of a word at a place, counted from the left in a word of this width.
+pub fn place_bit(width: u32, word: Word, place: u32) -> u64
     ensures { result ≡ place_bit width (num word) place }
 {
-    bits::bit_at(word, width - place as u32)
-}
-
-// How many of the first `width` entries are `place`.
-fn times_of(places: &[u8; 128], width: usize, place: u8) -> usize
-    requires { width ≤ widest }
-    ensures { result ≡ times width places.now place }
-{
-    let mut n: usize = 0;
-    let mut i: usize = 0;
-    while i < width {
-        if places[i] == place {
-            n += 1;
-        }
-        i += 1;
-    }
-    n
-}
-
-// The number, from 1, of the last of the first `width` entries that is `place`, or 0.
-fn seat_of(places: &[u8; 128], width: usize, place: u8) -> usize
-    requires { width ≤ widest }
-    ensures { result ≡ seat width places.now place }
-{
-    let mut n: usize = 0;
-    let mut i: usize = 0;
-    while i < width {
-        if places[i] == place {
-            n = i + 1;
-        }
-        i += 1;
-    }
-    n
-}
-
-// Whether entry k + 1 is as a swap of this width has it.
-fn entry_good(places: &[u8; 128], width: usize, k: usize) -> bool
-    requires { (width ≤ widest) × (k < widest) }
-    ensures { result ≡ entry_good width places.now k }
-{
-    let place = places[k];
-    if width <= k {
-        return place == 0;
-    }
-    if place < 1 {
-        return false;
-    }
-    if width < wide(place) {
-        return false;
-    }
-    times_of(places, width, (k + 1) as u8) == 1
-}
-
-// Whether the first `width` entries are 1 to width once each, and the later ones 0.
-fn good_places(places: &[u8; 128], width: usize) -> bool
-    requires { width ≤ widest }
-    ensures { result ≡ good widest width places.now }
-{
-    let mut i: usize = 0;
-    while i < 128 {
-        if !entry_good(places, width, i) {
-            return false;
-        }
-        i += 1;
-    }
-    true
-}
-
-// The word with its bits moved, built from the left.
-fn moved_word(places: &[u8; 128], width: u32, word: Word) -> Word
-    requires { (width ≤ widest) × (good widest width places.now ≡ true) }
-    ensures { result ≡ halves (moved width places.now (num word)) }
-{
-    let n = width as usize;
-    let mut acc = Word { low: 0, high: 0 };
-    let mut i: usize = 0;
-    while i < n {
-        acc = words::pushed(acc, bit_at(width, word, places[i]));
-        i += 1;
-    }
-    acc
-}
-
-// The word with its bits moved back: each set bit, found from the left, goes to the place that its entry names.
-fn returned_word(places: &[u8; 128], width: u32, word: Word) -> Word
-    requires { (width ≤ widest) × (good widest width places.now ≡ true) × (num word < 2 ^ width) }
-    ensures { result ≡ halves (moved width (inverse widest width places.now) (num word)) }
-{
-    let mut out = words::wide(0);
-    let mut left = word;
-    while !words::is_zero(left) {
-        let weight = 127 - bits::leading_zeros(left);
-        let place = places[(width - 1 - weight) as usize] as u32;
-        out = bits::or(out, bits::single(width - place));
-        left = bits::without(left, bits::single(weight));
-    }
-    out
-}
-
-// The places of the inverse.
-fn inverse_places(places: &[u8; 128], width: usize) -> [u8; 128]
-    requires { width ≤ widest }
-    ensures { result ≡ inverse widest width places.now }
-{
-    let mut out = [0u8; 128];
-    let mut i: usize = 0;
-    while i < width {
-        out[i] = seat_of(places, width, (i + 1) as u8) as u8;
-        i += 1;
-    }
-    out
-}
-
-// The places of the first swap, then the second.
-fn composed_places(first: &[u8; 128], second: &[u8; 128], width: usize) -> [u8; 128]
-    requires { (width ≤ widest) × (good widest width second.now ≡ true) }
-    ensures { result ≡ composed widest width first.now second.now }
-{
-    let mut out = [0u8; 128];
-    let mut i: usize = 0;
-    while i < width {
-        let place = second[i] as usize;
-        out[i] = first[place - 1];
-        i += 1;
-    }
-    out
-}
-
-// Refusal 9 of a swap whose width is 1 to 128.
-fn places_verdict(places: &[u8; 128], width: u32) -> Verdict
-    requires { width ≤ widest }
-    ensures { verdict_reply result ≡ places_check widest (swap_of places.now width) }
-{
-    if good_places(places, width as usize) {
-        return Verdict::Fine;
-    }
-    refused(9, 0, 0)
-}
-
-// A swap alone: 1, then 9.
-fn swap_verdict(places: &[u8; 128], width: u32) -> Verdict
-    ensures { verdict_reply result ≡ check_swap widest (swap_of places.now width) }
-{
-    let v = check_width(width);
-    let Verdict::Fine = v else {
-        return v;
-    };
-    places_verdict(places, width)
-}
-
-// A swap and a rule: 1, then 4 and 5 of the rule, then 9.
-fn swap_rule_verdict(places: &[u8; 128], width: u32, rule: Rule) -> Verdict
-    ensures { verdict_reply result ≡ check_swap_rule widest (swap_of places.now width) (rule_of rule) }
-{
-    let v = check_rule(width, 1, 1, rule);
-    let Verdict::Fine = v else {
-        return v;
-    };
-    places_verdict(places, width)
-}
-
-// A swap and a header: 1, then 6, then 9.
-fn swap_header_verdict(places: &[u8; 128], width: u32, header: Word) -> Verdict
-    ensures { verdict_reply result ≡ check_swap_header widest (swap_of places.now width) (num header) }
-{
-    let v = check_width(width);
-    let Verdict::Fine = v else {
-        return v;
-    };
-    if words::below(header, width) {
-        return places_verdict(places, width);
-    }
-    refused(6, 0, 0)
+    bits::bit_at(word, width.saturating_sub(place))
 }
 
 // Two swaps: the first's 1 and 9, then the second's, then 9 where the widths differ.
-fn swaps_verdict(first: &[u8; 128], width: u32, second: &[u8; 128], other: u32) -> Verdict
-    ensures { verdict_reply result
-        ≡ check_swaps widest (swap_of first.now width) (swap_of second.now other) }
+#[tactic(auto, using(rules::proofs::ReplyLaws::passing), unfolding(crate::specs::SwapCalls::check_swaps))]
+fn check_swaps(first: &Swap, second: &Swap) -> Result<(), Refusal>
+    ensures { verdict_reply result ≡ check_swaps widest first.now second.now }
 {
-    let v = swap_verdict(first, width);
-    let Verdict::Fine = v else {
-        return v;
-    };
-    let u = swap_verdict(second, other);
-    let Verdict::Fine = u else {
-        return u;
-    };
-    if width == other {
-        return Verdict::Fine;
+    first.check()?;
+    second.check()?;
+    if first.width == second.width {
+        return Ok(());
     }
-    refused(9, 0, 0)
-}
-
-// The answer of a call that would give a swap and is refused: the refusal, with the swap of zeros beside it.
-pub fn refused_swap(refusal: Refusal) -> SwapAnswer
-    ensures { (result.verdict ≡ Verdict.Refused refusal) × (result.swap ≡ no_swap widest) }
-{
-    SwapAnswer {
-        verdict: Verdict::Refused(refusal),
-        swap: Swap {
-            places: [0u8; 128],
-            width: 0,
-        },
-    }
+    refused(Reason::Swap, 0, 0)
 }
 
 impl Swap {
-    // Moves a rule.
-    pub fn apply_rule(self, rule: Rule) -> MovedRule
-        ensures { result ≡ moved_rule_answer (applied_rule widest self (rule_of rule)) }
+    // The entries that count, one for each place.
+    fn entries(&self) -> &[u8]
+        requires { self.now.width ≤ widest }
+        ensures { result.now ≡ take self.now.width self.now.places }
     {
-        let places = self.places;
-        let width = self.width;
-        let v = swap_rule_verdict(&places, width, rule);
-        if let Verdict::Refused(x) = v {
-            return MovedRule::Refused(x);
+        &self.places[..self.width as usize]
+    }
+
+    // How many of the entries are `place`.
+    #[tactic(auto, using(crate::proofs::SwapSteps::times_count))]
+    fn times_of(&self, place: u32) -> usize
+        requires { self.now.width ≤ widest }
+        ensures { result ≡ times self.now.width self.now.places place }
+    {
+        self.entries()
+            .iter()
+            .filter(|p| u32::from(**p) == place)
+            .count()
+    }
+
+    // Whether entry k + 1 is as a swap of this width has it.
+    #[tactic(auto, unfolding(crate::specs::Swaps::entry_good))]
+    fn is_entry_good(&self, k: usize) -> bool
+        requires { (self.now.width ≤ widest) × (k < widest) }
+        ensures { result ≡ entry_good self.now.width self.now.places k }
+    {
+        let place = u32::from(self.places[k]);
+        if self.width as usize <= k {
+            return place == 0;
         }
-        let care = moved_word(&places, width, rule.care);
-        let value = moved_word(&places, width, rule.value);
-        MovedRule::Moved(Rule {
-            care,
-            value,
+        1 <= place && place <= self.width && self.times_of(k as u32 + 1) == 1
+    }
+
+    // Whether the entries are 1 to width once each, and what stands behind them is 0.
+    fn is_good(&self) -> bool
+        requires { self.now.width ≤ widest }
+        ensures { result ≡ good widest self.now.width self.now.places }
+    {
+        (0..128).all(|k| self.is_entry_good(k))
+    }
+
+    // The word with its bits moved, built from the left.
+    fn moved_word(&self, word: Word) -> Word
+        requires { self.now.width ≤ widest }
+        ensures { result ≡ halves (moved self.now.width self.now.places (num word)) }
+    {
+        let mut out = Word::from(0);
+        for place in self.entries() {
+            out = words::pushed(out, place_bit(self.width, word, u32::from(*place)));
+        }
+        out
+    }
+
+    // The word with its bits moved back: each set bit, found from the left, goes to the place that its entry names.
+    fn returned_word(&self, word: Word) -> Word
+        requires { (self.now.width ≤ widest) × (good widest self.now.width self.now.places ≡ true)
+            × (num word < 2 ^ self.now.width) }
+        ensures { result
+            ≡ halves (moved self.now.width (inverse widest self.now.width self.now.places) (num word)) }
+    {
+        let mut out = Word::from(0);
+        let mut left = word;
+        // As many turns as there are set bits, which no range counts.
+        while !words::is_zero(left) {
+            let weight = 127 - bits::leading_zeros(left);
+            let place = u32::from(self.places[(self.width - 1 - weight) as usize]);
+            out = out | bits::single(self.width - place);
+            left = bits::without(left, bits::single(weight));
+        }
+        out
+    }
+
+    // The places of the inverse.
+    fn inverse_places(&self) -> [u8; 128]
+        requires { (self.now.width ≤ widest) × (good widest self.now.width self.now.places ≡ true) }
+        ensures { result ≡ inverse widest self.now.width self.now.places }
+    {
+        let mut out = [0u8; 128];
+        for i in 0..self.width as usize {
+            out[self.places[i] as usize - 1] = (i + 1) as u8;
+        }
+        out
+    }
+
+    // The places of this swap first, then the other.
+    fn composed_places(&self, then: &Swap) -> [u8; 128]
+        requires { (self.now.width ≤ widest) × (good widest self.now.width «then».now.places ≡ true) }
+        ensures { result ≡ composed widest self.now.width self.now.places «then».now.places }
+    {
+        let mut out = [0u8; 128];
+        for i in 0..self.width as usize {
+            out[i] = self.places[then.places[i] as usize - 1];
+        }
+        out
+    }
+
+    // Refusal 9 of a swap whose width is 1 to 128.
+    #[tactic(auto, unfolding(crate::specs::SwapCalls::places_check))]
+    fn check_places(&self) -> Result<(), Refusal>
+        requires { self.now.width ≤ widest }
+        ensures { verdict_reply result ≡ places_check widest self.now }
+    {
+        if self.is_good() {
+            return Ok(());
+        }
+        refused(Reason::Swap, 0, 0)
+    }
+
+    // This swap alone: 1, then 9.
+    #[tactic(auto, using(rules::proofs::ReplyLaws::passing, crate::proofs::SwapCallLaws::whole), unfolding(crate::specs::SwapCalls::check_swap))]
+    fn check(&self) -> Result<(), Refusal>
+        ensures { verdict_reply result ≡ check_swap widest self.now }
+    {
+        check_width(self.width)?;
+        self.check_places()
+    }
+
+    // This swap and a rule: 1, then 4 and 5 of the rule, then 9.
+    #[tactic(auto, using(rules::proofs::ReplyLaws::passing, crate::proofs::SwapCallLaws::whole), unfolding(crate::specs::SwapCalls::check_swap_rule))]
+    fn check_with_rule(&self, rule: Rule) -> Result<(), Refusal>
+        ensures { verdict_reply result ≡ check_swap_rule widest self.now (rule_of rule) }
+    {
+        check_rule(self.width, 1, 1, rule)?;
+        self.check_places()
+    }
+
+    // This swap and a header: 1, then 6, then 9.
+    #[tactic(auto, using(rules::proofs::ReplyLaws::passing, crate::proofs::SwapCallLaws::whole), unfolding(crate::specs::SwapCalls::check_swap_header))]
+    fn check_with_header(&self, header: Word) -> Result<(), Refusal>
+        ensures { verdict_reply result ≡ check_swap_header widest self.now (num header) }
+    {
+        check_width(self.width)?;
+        check_header(self.width, header)?;
+        self.check_places()
+    }
+
+    // Moves a rule.
+    #[tactic(auto, using(crate::proofs::SwapCallLaws::whole), unfolding(crate::specs::Swaps::moved_rule))]
+    pub fn apply_rule(self, rule: Rule) -> Result<Rule, Refusal>
+        ensures { SwapGiven (check_swap_rule widest self (rule_of rule))
+            (held (moved_rule self.width self.places (rule_of rule))) result }
+    {
+        self.check_with_rule(rule)?;
+        Ok(Rule {
+            care: self.moved_word(rule.care),
+            value: self.moved_word(rule.value),
             decision: rule.decision,
         })
     }
 
     // Moves a header from wire order into swapped order.
-    pub fn apply(self, header: Wire) -> ToSwapped
-        ensures { result ≡ to_swapped_answer (applied_header widest self (num header.0)) }
+    #[tactic(auto, using(crate::proofs::SwapCallLaws::whole))]
+    pub fn apply(self, header: Wire) -> Result<Swapped, Refusal>
+        ensures { SwapGiven (check_swap_header widest self (num header.0))
+            (record { 0 = halves (moved self.width self.places (num header.0)) }) result }
     {
-        let places = self.places;
-        let width = self.width;
         let word = header.0;
-        let v = swap_header_verdict(&places, width, word);
-        if let Verdict::Refused(x) = v {
-            return ToSwapped::Refused(x);
-        }
-        ToSwapped::Header(Swapped(moved_word(&places, width, word)))
+        self.check_with_header(word)?;
+        Ok(Swapped(self.moved_word(word)))
     }
 
     // Moves a header from swapped order back into wire order.
-    pub fn undo(self, header: Swapped) -> ToWire
-        ensures { result ≡ to_wire_answer (undone_header widest self (num header.0)) }
+    #[tactic(auto, using(crate::proofs::SwapCallLaws::whole))]
+    pub fn undo(self, header: Swapped) -> Result<Wire, Refusal>
+        ensures { SwapGiven (check_swap_header widest self (num header.0))
+            (record { 0 = halves (moved self.width (inverse widest self.width self.places) (num header.0)) }) result }
     {
-        let places = self.places;
-        let width = self.width;
         let swapped = header.0;
-        let v = swap_header_verdict(&places, width, swapped);
-        if let Verdict::Refused(x) = v {
-            return ToWire::Refused(x);
-        }
-        ToWire::Header(Wire(returned_word(&places, width, swapped)))
+        self.check_with_header(swapped)?;
+        Ok(Wire(self.returned_word(swapped)))
     }
 
     // The swap that undoes this one.
-    pub fn invert(self) -> SwapAnswer
-        ensures { SwapGiven widest (check_swap widest self) (inverted widest self) result }
+    #[tactic(auto, unfolding(crate::specs::SwapCalls::inverted))]
+    pub fn invert(self) -> Result<Swap, Refusal>
+        ensures { SwapGiven (check_swap widest self) (inverted widest self) result }
     {
-        let places = self.places;
-        let width = self.width;
-        let v = swap_verdict(&places, width);
-        if let Verdict::Refused(x) = v {
-            return refused_swap(x);
-        }
-        let back = inverse_places(&places, width as usize);
-        SwapAnswer {
-            verdict: Verdict::Fine,
-            swap: Swap {
-                places: back,
-                width,
-            },
-        }
+        self.check()?;
+        Ok(Swap {
+            places: self.inverse_places(),
+            width: self.width,
+        })
     }
 
     // This swap first, then the other.
-    pub fn compose(self, then: Swap) -> SwapAnswer
-        ensures { SwapGiven widest (check_swaps widest self «then») (joined widest self «then») result }
+    #[tactic(auto, using(crate::proofs::SwapCallLaws::whole), unfolding(crate::specs::SwapCalls::joined))]
+    pub fn compose(self, then: Swap) -> Result<Swap, Refusal>
+        ensures { SwapGiven (check_swaps widest self «then») (joined widest self «then») result }
     {
-        let first = self.places;
-        let width = self.width;
-        let second = then.places;
-        let other = then.width;
-        let v = swaps_verdict(&first, width, &second, other);
-        if let Verdict::Refused(x) = v {
-            return refused_swap(x);
-        }
-        let both = composed_places(&first, &second, width as usize);
-        SwapAnswer {
-            verdict: Verdict::Fine,
-            swap: Swap {
-                places: both,
-                width,
-            },
-        }
+        check_swaps(&self, &then)?;
+        Ok(Swap {
+            places: self.composed_places(&then),
+            width: self.width,
+        })
     }
 }
 
 // Looks a header in swapped order up by its number: no header in wire order is made of it.
-pub fn lookup_swapped(
-    width: u32,
-    care: &[u64],
-    value: &[u64],
-    decision: &[u16],
-    header: Swapped,
-) -> Looked
+pub fn lookup_swapped(width: u32, rules: RuleList, header: Swapped) -> Result<Option<Hit>, Refusal>
     ensures { looked_reply result
-        ≡ looked_up width care.now value.now decision.now (num header.0) }
+        ≡ looked_in width rules.entry (num header.0) }
 {
-    lookup_number(width, care, value, decision, header.0)
+    lookup_number(width, rules, header.0)
 }

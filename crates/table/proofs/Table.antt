@@ -18,7 +18,7 @@ use Rattle.weaving.specs.Runs.{cut, run_sizes}
 use Rattle.weaving.specs.Weave.{weave, dropped, merges}
 use Rattle.weaving.specs.Calls.{runs_reply, weave_reply}
 use Rattle.compare.specs.Runs.{Run, run, runs_from as runs_of, runs_to, differences, portion, ending}
-use Rattle.compare_check.specs.declared.Default.{Default}
+use Rattle.std.specs.Prelude.{Option, Some, None}
 use Rattle.compare_check.specs.Outcomes.{outcome}
 use Rattle.compare_check.specs.Checks.{compare_check, portion_check, results_check, default_check, outcomes_check}
 
@@ -55,18 +55,18 @@ pub record Compares (w : ℕ) (old new : List Rule) (start room : ℕ) (listed :
   pub last : ending room (all_runs w old new start) ≡ next
 
 -- The checks of a comparison of these rules, each side with its default, and all runs of their outcomes.
-abbrev outcome_checks : (w : ℕ) → (old : List Rule) → (old_default : Default) → (new : List Rule) → (new_default : Default) → (start room : ℕ) → Reply
+abbrev outcome_checks : (w : ℕ) → (old : List Rule) → (old_default : Option ℕ) → (new : List Rule) → (new_default : Option ℕ) → (start room : ℕ) → Reply
 outcome_checks w old old_default new new_default start room =
     outcomes_check w (cares_of old) (values_of old) (decisions_of old) old_default (cares_of new) (values_of new) (decisions_of new) new_default
     start (room * 2) (room * 2) room room
 
-abbrev outcome_runs : (w : ℕ) → (old : List Rule) → (old_default : Default) → (new : List Rule) → (new_default : Default) → (start : ℕ) → List Run
+abbrev outcome_runs : (w : ℕ) → (old : List Rule) → (old_default : Option ℕ) → (new : List Rule) → (new_default : Option ℕ) → (start : ℕ) → List Run
 outcome_runs w old old_default new new_default start =
     differences w (outcome old_default (rules_of (cares_of old) (values_of old) (decisions_of old)))
     (outcome new_default (rules_of (cares_of new) (values_of new) (decisions_of new))) start
 
 -- Comparing the outcomes of these rules: likewise.
-pub record ComparesOutcomes (w : ℕ) (old : List Rule) (old_default : Default) (new : List Rule) (new_default : Default) (start room : ℕ)
+pub record ComparesOutcomes (w : ℕ) (old : List Rule) (old_default : Option ℕ) (new : List Rule) (new_default : Option ℕ) (start room : ℕ)
     (listed : List Run) (next : List ℕ) : Type 0 where
   pub fine : outcome_checks w old old_default new new_default start room ≡ passed
   pub list : portion room (outcome_runs w old old_default new new_default start) ≡ listed
@@ -129,14 +129,14 @@ pub record Table : Type 0 where
   pub one-run : Compares 2 (rule 3 0 1 ∷ rule 3 1 1 ∷ []) [] 0 1 (run 0 1 1 no_match ∷ []) []
   -- the width 3 pair again, with no default: the same three runs; with 1 on both sides: each side decides 1 everywhere, and no run is left;
   -- with 1 on the new side: one run, from 4 to 7; with 1 on the old side: the runs where the new list misses
-  pub no-defaults : ComparesOutcomes 3 older Default.Absent newer Default.Absent 0 3 (run 2 3 1 no_match ∷ run 5 5 no_match 1 ∷ run 7 7 no_match 1 ∷ []) []
-  pub both-default : ComparesOutcomes 3 older (Default.Decision 1) newer (Default.Decision 1) 0 3 [] []
-  pub new-default : ComparesOutcomes 3 older Default.Absent newer (Default.Decision 1) 0 3 (run 4 7 no_match 1 ∷ []) []
-  pub old-default : ComparesOutcomes 3 older (Default.Decision 1) newer Default.Absent 0 3 (run 2 4 1 no_match ∷ run 6 6 1 no_match ∷ []) []
-  pub old-default-one : ComparesOutcomes 3 older (Default.Decision 1) newer Default.Absent 0 1 (run 2 4 1 no_match ∷ []) (6 ∷ [])
+  pub no-defaults : ComparesOutcomes 3 older None newer None 0 3 (run 2 3 1 no_match ∷ run 5 5 no_match 1 ∷ run 7 7 no_match 1 ∷ []) []
+  pub both-default : ComparesOutcomes 3 older (Some 1) newer (Some 1) 0 3 [] []
+  pub new-default : ComparesOutcomes 3 older None newer (Some 1) 0 3 (run 4 7 no_match 1 ∷ []) []
+  pub old-default : ComparesOutcomes 3 older (Some 1) newer None 0 3 (run 2 4 1 no_match ∷ run 6 6 1 no_match ∷ []) []
+  pub old-default-one : ComparesOutcomes 3 older (Some 1) newer None 0 1 (run 2 4 1 no_match ∷ []) (6 ∷ [])
   -- a default of 65,535 is refused 5 with its side, the old one first, and before the start's 6
-  pub bad-defaults : outcome_checks 3 older (Default.Decision 65535) newer (Default.Decision 65535) 8 0 ≡ Refuses 5 1 0
-  pub bad-new-default : outcome_checks 3 older Default.Absent newer (Default.Decision 65535) 8 0 ≡ Refuses 5 2 0
+  pub bad-defaults : outcome_checks 3 older (Some 65535) newer (Some 65535) 8 0 ≡ Refuses 5 1 0
+  pub bad-new-default : outcome_checks 3 older None newer (Some 65535) 8 0 ≡ Refuses 5 2 0
 
 -- Every row, by computing.
 pub table : Table

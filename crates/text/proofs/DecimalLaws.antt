@@ -6,15 +6,13 @@ use native.Mathlib.Nat.{lt_of_lt_of_le, pow-suc}
 use native.Mathlib.Omega.{arith}
 use borrow.Author.Tests.{leb-true}
 use lib.Dec.{eqb}
-use lib.ListN.{length, get_or, take, drop, set, length-append, length-drop, drop_of_length-le}
-use lib.Seq.{set_split, drop_at, length-take-le, take_all}
+use lib.ListN.{length, get_or, take, drop, set, length-append, drop_of_length-le}
+use lib.Seq.{set_split, drop_at, length-take-le}
 use Rattle.words.specs.declared.Word.{Word}
 use Rattle.words.specs.Halves.{num, limit}
 use Rattle.words.proofs.WordLaws.{num-lt}
 use Rattle.words.proofs.Tests.{split, eqb_yes, no_eqb}
 use Rattle.text.specs.Decimal.{last_digit, digits_within, decimal}
-use Rattle.text.specs.Put.{Put}
-use Rattle.text.proofs.PutLaws.{put_all, put-short}
 
 -- ---- the digits one by one
 
@@ -133,19 +131,3 @@ module _ (s : List ℕ) (n k d : ℕ) (h : k ≤ length s) (p : 1 ≤ k) (e : d 
       ∙ append_assoc (decimal (n / 10)) (last_digit n ∷ []) (drop k s)
       ∙ ap (λ (j : ℕ). decimal j ++ ((last_digit n ∷ []) ++ drop k s)) (sym f)
       ∙ ap (λ (l : List ℕ). decimal m ++ l) (sym one-put)
-
--- ---- what the call promises
-
-module _ (n from : ℕ) (s old : List ℕ) (l : length s ≡ 39) (e : drop from s ≡ decimal n) where
-  size : length (decimal n) ≡ 39 - from
-  size = sym (ap length e) ∙ length-drop from s ∙ ap (λ (k : ℕ). k - from) l
-
-  pub no_room : length old < 39 - from → Put (decimal n) old 0 old
-  no_room h = put-short (decimal n) old (omega (arith, size))
-
-  pub all-copied : (i : ℕ) (new : List ℕ) → i ≡ 39 → 39 - from ≤ length old → new ≡ take (i - from) (drop from s) ++ drop (i - from) old
-      → Put (decimal n) old (39 - from) new
-  all-copied i new p h f =
-      put_all (decimal n) old (39 - from) new (sym size) h
-      (f ∙ ap (λ (k : ℕ). take (k - from) (drop from s) ++ drop (k - from) old) p
-      ∙ ap (λ (t : List ℕ). t ++ drop (39 - from) old) (take_all (39 - from) (drop from s) (omega (arith, size, ap length e)) ∙ e))

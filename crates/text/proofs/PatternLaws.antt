@@ -10,15 +10,14 @@ use lib.ListN.{length, get_or, drop, set, length-append, get_or-append}
 use lib.Seq.{get_or-append_seam}
 use borrow.Author.Tests.{lt-leb, le-leb, eq-eqb, ne_eqb}
 use Rattle.words.specs.Words.{place_bit}
-use Rattle.words.proofs.Tests.{split, eqb_yes, no_eqb, and-on, true-and}
+use Rattle.words.proofs.Tests.{split, eqb_yes, no_eqb}
 use Rattle.rules.specs.Rule.{Rule}
 use Rattle.rules.specs.Rules.{choose}
-use Rattle.rules.specs.Replies.{Reply, unless_refused}
-use Rattle.rules.specs.Checks.{widest, width_check}
-use Rattle.rules.proofs.CheckLaws.{width-yes, width-no}
+use Rattle.std.specs.Prelude.{Some, None, if◌then◌else◌}
+use Rattle.rules.specs.Checks.{widest}
 use Rattle.text.specs.Patterns.{glyph_at, places_text, pattern_text}
 use Rattle.text.specs.Put.{Put}
-use Rattle.text.proofs.PutLaws.{put_next, put_all, put-empty, put-short}
+use Rattle.text.proofs.PutLaws.{put_next, put_all, put-none, put-short}
 
 pub text-length : (w : ℕ) (r : Rule) (k : ℕ) → length (places_text w r k) ≡ k
 unfolding places_text
@@ -56,31 +55,25 @@ text-place w r (suc k) p h =
 
 -- ---- the whole pattern
 
-over-text : (w : ℕ) (r : Rule) → widest < w → pattern_text w r ≡ []
+over-text : (w : ℕ) (r : Rule) → widest < w → pattern_text w r ≡ None
 unfolding pattern_text
-over-text w r h =
-    ap (λ (k : Reply). unless_refused k (places_text w r w) []) (width-no w (sym (sym (lt-leb w widest h) ∙ and-on (le-leb 1 w (omega arith)))))
+over-text w r h = ap (λ (t : Bool). if t then Some (places_text w r w) else None) (lt-leb w widest h)
 
--- a width of 0 is refused, and has no places
-whole-text : (w : ℕ) (r : Rule) → w ≤ widest → pattern_text w r ≡ places_text w r w
-unfolding pattern_text places_text width_check
-whole-text zero r h = refl
-whole-text (suc w) r h =
-    ap (λ (k : Reply). unless_refused k (places_text (suc w) r (suc w)) [])
-    (width-yes (suc w) (true-and (le-leb 1 (suc w) (omega arith)) (le-leb (suc w) widest h)))
+whole-text : (w : ℕ) (r : Rule) → w ≤ widest → pattern_text w r ≡ Some (places_text w r w)
+unfolding pattern_text
+whole-text w r h = ap (λ (t : Bool). if t then Some (places_text w r w) else None) (le-leb w widest h)
 
 module _ (w : ℕ) (r : Rule) (old : List ℕ) where
-  pub over-wide : widest < w → Put (pattern_text w r) old 0 old
-  over-wide h = put-empty (pattern_text w r) old (over-text w r h)
+  pub over-wide : widest < w → Put (pattern_text w r) old None old
+  over-wide h = rw (over-text w r h) (put-none old)
 
-  pub too_short : w ≤ widest → length old < w → Put (pattern_text w r) old 0 old
-  too_short g h = put-short (pattern_text w r) old (omega (arith, ap length (whole-text w r g), text-length w r w))
+  module _ (g : w ≤ widest) where
+    pub too_short : length old < w → Put (pattern_text w r) old None old
+    too_short h = rw (whole-text w r g) (put-short (places_text w r w) old (omega (arith, text-length w r w)))
 
-  pub all-places : (k : ℕ) (new : List ℕ) → w ≤ widest → w ≤ length old → k ≡ w → new ≡ places_text w r k ++ drop k old
-      → Put (pattern_text w r) old w new
-  all-places k new g h l e =
-      put_all (pattern_text w r) old w new (omega (arith, ap length (whole-text w r g), text-length w r w)) h
-      (e ∙ ap (λ (n : ℕ). places_text w r n ++ drop n old) l ∙ ap (λ (t : List ℕ). t ++ drop w old) (sym (whole-text w r g)))
+    pub all-places : (k : ℕ) (new : List ℕ) → w ≤ length old → k ≡ w → new ≡ places_text w r k ++ drop k old → Put (pattern_text w r) old (Some w) new
+    all-places k new h l e =
+        rw (whole-text w r g) (put_all (places_text w r w) old w new (sym (text-length w r w)) h (e ∙ ap (λ (n : ℕ). places_text w r n ++ drop n old) l))
 
 -- ---- the glyph of a place
 

@@ -1,5 +1,4 @@
 pub mod Put
 pub mod Numbers
 pub mod Decimal
-pub mod Digits
 pub mod Patterns

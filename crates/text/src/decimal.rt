@@ -1,10 +1,10 @@
 // Numbers written in decimal.
-ghost use Rattle.std.specs.Prelude.{◌≡◌, ◌≤◌, length, drop};
+ghost use Rattle.std.specs.Prelude.{◌≡◌, ◌≤◌, length, drop, Some};
 ghost use Rattle.words.specs.Halves.{num};
 ghost use Rattle.text.specs.Decimal.{decimal as decimal_of};
 ghost use Rattle.text.specs.Put.{Put};
 
-use crate::digits::{last_digit, tenth};
+use crate::digits;
 use words::Word;
 
 // Puts the digits of a number at the end of `space`, and answers where the first one stands. The greatest number has 39.
@@ -12,33 +12,39 @@ fn digits_at_end(number: Word, space: &mut [u8; 39]) -> usize
     requires { length space.old ≡ 39 }
     ensures { (result ≤ 39) × (length space.new ≡ 39) × (drop result space.new ≡ decimal_of (num number)) }
 {
-    let mut rest = number;
-    let mut at: usize = 39;
+    let mut rest = digits::number(number);
+    let mut at = 39;
+    // The end is where no digit is left, behind at least one: a `for` over the places would have no answer behind its end.
     loop {
         at -= 1;
-        space[at] = (48 + last_digit(rest)) as u8;
-        let more = tenth(rest);
-        if words::is_zero(more) {
+        space[at] = b'0' + (rest % 10) as u8;
+        let more = rest / 10;
+        if more == 0 {
             return at;
         }
         rest = more;
     }
 }
 
-// Puts a number at the start of `out`, in decimal with no zeros before it, and answers how many bytes it takes: 1 to 39,
-// or 0 where `out` is too short, and then nothing changes.
-pub fn write_number(number: Word, out: &mut [u8]) -> usize
-    ensures { Put (decimal_of (num number)) out.old result out.new }
+// Puts a text at the start of `out`, and answers how many bytes it takes; None where `out` is too short, and then nothing
+// changes.
+#[tactic(auto, unfolding(crate::specs::Put::fitting, rules::specs::Checks::room_check))]
+fn put(text: &[u8], out: &mut [u8]) -> Option<usize>
+    ensures { Put (Some text.now) out.old result out.new }
 {
-    let mut space: [u8; 39] = [0; 39];
+    if out.len() < text.len() {
+        return None;
+    }
+    out[..text.len()].copy_from_slice(text);
+    Some(text.len())
+}
+
+// Puts a number at the start of `out`, in decimal with no zeros before it, and answers how many bytes it takes, 1 to 39;
+// None where `out` is too short, and then nothing changes.
+pub fn write_number(number: Word, out: &mut [u8]) -> Option<usize>
+    ensures { Put (Some (decimal_of (num number))) out.old result out.new }
+{
+    let mut space = [0; 39];
     let from = digits_at_end(number, &mut space);
-    if out.len() < 39 - from {
-        return 0;
-    }
-    let mut i = from;
-    while i < 39 {
-        out[i - from] = space[i];
-        i += 1;
-    }
-    39 - from
+    put(&space[from..], out)
 }

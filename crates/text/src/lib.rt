@@ -9,11 +9,3 @@ mod patterns;
 pub use decimal::write_number;
 pub use numbers::read_number;
 pub use patterns::write_pattern;
-use words::Word;
-
-// What a word of text stands for.
-#[derive(Clone, Copy)]
-pub enum Number {
-    Value(Word),
-    Nothing,
-}

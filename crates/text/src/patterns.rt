@@ -7,32 +7,32 @@ ghost use Rattle.text.specs.Put.{Put};
 use rules::Rule;
 
 // What stands for a place.
+#[tactic(auto, unfolding(crate::specs::Patterns::glyph_at))]
 fn glyph(width: u32, rule: Rule, place: u32) -> u8
     requires { place ≤ width }
     ensures { result ≡ glyph_at width (rule_of rule) place }
 {
     let weight = width - place;
     if bits::bit_at(rule.care, weight) == 0 {
-        return 42;
+        return b'*';
     }
-    (48 + bits::bit_at(rule.value, weight)) as u8
+    b'0' + bits::bit_at(rule.value, weight) as u8
 }
 
-// Puts the pattern of a rule at the start of `out`, place 1 first, and answers how many bytes it takes: the width, or 0
+// Puts the pattern of a rule at the start of `out`, place 1 first, and answers how many bytes it takes, the width; None
 // where the width is over 128 or `out` is too short, and then nothing changes.
-pub fn write_pattern(width: u32, rule: Rule, out: &mut [u8]) -> usize
+pub fn write_pattern(width: u32, rule: Rule, out: &mut [u8]) -> Option<usize>
     ensures { Put (pattern_text width (rule_of rule)) out.old result out.new }
 {
+    let size = width as usize;
     if 128 < width {
-        return 0;
+        return None;
     }
-    if out.len() < width as usize {
-        return 0;
+    if out.len() < size {
+        return None;
     }
-    let mut k: u32 = 0;
-    while k < width {
+    for k in 0..width {
         out[k as usize] = glyph(width, rule, k + 1);
-        k += 1;
     }
-    width as usize
+    Some(size)
 }

@@ -1,13 +1,10 @@
 // What a command line asks for is done. A command line stands among the program's arguments: its name at a place, which is 0 for the
 // program's own, and its words after that. Words that have to be numbers are looked at before any file.
-use crate::numbers::Named;
 use crate::{fields, images, lines, numbers, places};
 use command_line::{Command, Wanted};
-use compare_check::Default;
 use rules::Wire;
 use std::io::Print;
 use std::rt::{Env, Files};
-use text::Number;
 use words::Word;
 
 // A command on image files, with the numbers that it names: the id of a list, a header to ask for or to start from, and the defaults of
@@ -17,8 +14,8 @@ pub(crate) struct Request {
     pub command: Command,
     pub id: Word,
     pub header: Wire,
-    pub old_default: Default,
-    pub new_default: Default,
+    pub old_default: Option<u16>,
+    pub new_default: Option<u16>,
 }
 
 fn asked(rt: &impl Env, at: usize, words: usize) -> Wanted {
@@ -32,53 +29,43 @@ fn asked(rt: &impl Env, at: usize, words: usize) -> Wanted {
 // The place of the name, and how many words there are with the name.
 pub(crate) fn run(rt: &(impl Env + Files + Print), at: usize, words: usize) {
     let wanted = asked(rt, at, words);
-    let command = wanted.command;
-    match command {
-        Command::Lookup => with_numbers(rt, at, wanted, 3, 4),
-        Command::Runs => with_numbers(rt, at, wanted, 3, 0),
-        Command::CompareId => with_numbers(rt, at, wanted, 4, 0),
-        Command::CompareFrom => with_numbers(rt, at, wanted, 4, 5),
+    match wanted.command {
+        Command::Lookup => on_file(rt, at, wanted, Some(3), Some(4)),
+        Command::Runs => on_file(rt, at, wanted, Some(3), None),
+        Command::CompareId => on_file(rt, at, wanted, Some(4), None),
+        Command::CompareFrom => on_file(rt, at, wanted, Some(4), Some(5)),
         Command::Prefixes => fields::prefixes(rt, at),
         Command::Usage => lines::usage(rt),
-        _ => with_numbers(rt, at, wanted, 0, 0),
+        _ => on_file(rt, at, wanted, None, None),
     }
 }
 
-// A command whose word i is an id, and word h a header; 0 where it names none.
-fn with_numbers(rt: &(impl Env + Files + Print), at: usize, wanted: Wanted, i: usize, h: usize) {
-    let n = numbers::number_at(rt, at, i);
-    if let Number::Value(id) = n {
-        let m = numbers::number_at(rt, at, h);
-        if let Number::Value(header) = m {
-            with_defaults(rt, at, wanted, id, Wire(header));
-        }
-    }
-}
-
-// The same with its defaults.
-fn with_defaults(
+// A command on image files, and which of its words are an id and a header.
+fn on_file(
     rt: &(impl Env + Files + Print),
     at: usize,
     wanted: Wanted,
-    id: Word,
-    header: Wire,
+    id: Option<usize>,
+    header: Option<usize>,
 ) {
-    let command = wanted.command;
-    let old = numbers::default_at(rt, at, wanted.old);
-    if let Named::Default(old_default) = old {
-        let new = numbers::default_at(rt, at, wanted.new);
-        if let Named::Default(new_default) = new {
-            images::on_file(
-                rt,
-                at,
-                Request {
-                    command,
-                    id,
-                    header,
-                    old_default,
-                    new_default,
-                },
-            );
-        }
+    if let Some(request) = request(rt, at, wanted, id, header) {
+        images::on_file(rt, at, request);
     }
+}
+
+// The numbers that the command names; none where a word of them is no number, and then a line says so.
+fn request(
+    rt: &(impl Env + Print),
+    at: usize,
+    wanted: Wanted,
+    id: Option<usize>,
+    header: Option<usize>,
+) -> Option<Request> {
+    Some(Request {
+        command: wanted.command,
+        id: numbers::number_at(rt, at, id)?,
+        header: Wire(numbers::number_at(rt, at, header)?),
+        old_default: numbers::default_at(rt, at, wanted.defaults.map(|d| d.old))?,
+        new_default: numbers::default_at(rt, at, wanted.defaults.map(|d| d.new))?,
+    })
 }

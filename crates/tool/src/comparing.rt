@@ -1,9 +1,9 @@
 // Comparing two images: the lines are those of `run_lines`, and a refusal is said here.
 use crate::commands::Request;
-use crate::files::Held;
 use crate::{files, lines, lists, slices};
 use command_line::Command;
-use compare::{Compared, Ending};
+use compare::Compared;
+use rules::Refusal;
 use std::io::Print;
 use std::rt::{Env, Files};
 
@@ -15,18 +15,16 @@ pub(crate) fn on_new_file(
     request: Request,
 ) {
     let mut space = files::space();
-    let held = files::load_word(rt, at, 3, &mut space);
-    if let Held::Bytes(n) = held {
-        compare(rt, old, slices::bytes(&space, n), request);
+    if let Some(n) = files::load_word(rt, at, 3, &mut space) {
+        compare(rt, old, slices::first(&space, n), request);
     }
 }
 
 // The lists with the id that was named, or the first lists where none was.
 fn compare(rt: &impl Print, old: &[u8], new: &[u8], request: Request) {
-    let command = request.command;
     let a = request.old_default;
     let b = request.new_default;
-    if let Command::Compare = command {
+    if let Command::Compare = request.command {
         refused(
             rt,
             run_lines::show_first(rt, old, a, new, b, request.header),
@@ -43,9 +41,8 @@ fn compare(rt: &impl Print, old: &[u8], new: &[u8], request: Request) {
 }
 
 // Says why there are no lines, where there are none.
-fn refused(rt: &impl Print, c: Compared) {
-    let ending = c.ending;
-    if let Ending::Refused(x) = ending {
+fn refused(rt: &impl Print, c: Result<Compared, Refusal>) {
+    if let Err(x) = c {
         lines::refusal(rt, x);
     }
 }

@@ -6,13 +6,6 @@ use std::fs::OpenFile;
 use std::io::{Print, Read, Write};
 use std::rt::{Env, Files};
 
-// How many bytes a file had, or that it could not be read and a line has said so.
-#[derive(Clone, Copy)]
-pub(crate) enum Held {
-    Bytes(usize),
-    Nothing,
-}
-
 // Room for the largest image and one byte more, so that a larger file is seen to be too large and is not cut.
 pub(crate) fn space() -> [u8; 65537]
     ensures { 65537 ≡ length result }
@@ -26,17 +19,18 @@ fn fails(mut file: impl Read + Drop) -> bool {
     file.read(&mut one).is_err()
 }
 
-fn load(rt: &(impl Files + Print), path: &[u8], buffer: &mut [u8]) -> Held {
+// How many bytes a file had; none where it could not be read, and then a line has said so.
+fn load(rt: &(impl Files + Print), path: &[u8], buffer: &mut [u8]) -> Option<usize> {
     let Some(mut file) = host::open(rt, path) else {
         lines::trouble(rt, b"cannot open ", path);
-        return Held::Nothing;
+        return None;
     };
     let n = host::read_full(&mut file, buffer);
     if fails(file) {
         lines::trouble(rt, b"cannot read ", path);
-        Held::Nothing
+        None
     } else {
-        Held::Bytes(n)
+        Some(n)
     }
 }
 
@@ -46,7 +40,7 @@ pub(crate) fn load_word(
     at: usize,
     i: usize,
     buffer: &mut [u8],
-) -> Held {
+) -> Option<usize> {
     let mut path = [0u8; host::NAME_ROOM];
     let n = host::word(rt, places::place(at, i), &mut path);
     load(rt, &path[..n], buffer)
@@ -66,7 +60,7 @@ fn unwritten(rt: &impl Print, name: &[u8]) -> bool {
 // Writes the bytes to the new file `part` and, once it is complete, renames it to what the first n bytes of that name are. Where that
 // cannot be done, `part` is removed, a line says so, and the file that it was to become is as it was.
 fn save(rt: &(impl Files + Print), part: &[u8], n: usize, bytes: &[u8]) -> bool {
-    let out = slices::bytes(part, n);
+    let out = slices::first(part, n);
     let Some(file) = host::create(rt, part) else {
         return unwritten(rt, part);
     };
@@ -79,17 +73,17 @@ fn save(rt: &(impl Files + Print), part: &[u8], n: usize, bytes: &[u8]) -> bool 
     unwritten(rt, out)
 }
 
-// Puts ".part" after the first n bytes of a name, and answers its length; 0 where the name is empty or there is no room for it.
-fn add_part(name: &mut [u8], n: usize) -> usize {
+// Puts ".part" after the first n bytes of a name, and answers its length; none where the name is empty or there is no room for it.
+fn add_part(name: &mut [u8], n: usize) -> Option<usize> {
     if 0 < n {
         if n <= 4000 {
             if n + 5 <= name.len() {
                 name[n..n + 5].copy_from_slice(b".part");
-                return n + 5;
+                return Some(n + 5);
             }
         }
     }
-    0
+    None
 }
 
 // Writes the bytes as the file that word i after place `at` names, whole or not at all; whether that was done. A name that is empty or too
@@ -102,10 +96,8 @@ pub(crate) fn save_word(
 ) -> bool {
     let mut name = [0u8; host::NAME_ROOM];
     let n = host::word(rt, places::place(at, i), &mut name);
-    let m = add_part(&mut name, n);
-    if m > 0 {
-        save(rt, slices::bytes(&name, m), n, bytes)
-    } else {
-        unwritten(rt, slices::bytes(&name, n))
+    match add_part(&mut name, n) {
+        Some(m) => save(rt, slices::first(&name, m), n, bytes),
+        None => unwritten(rt, slices::first(&name, n)),
     }
 }

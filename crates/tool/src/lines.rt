@@ -1,7 +1,7 @@
 // The lines that the tool writes.
 use crate::slices;
 pub(crate) use host::say;
-use rules::{Refusal, Rule};
+use rules::{Reason, Refusal, Rule};
 use std::io::Print;
 use words::Word;
 
@@ -17,15 +17,17 @@ pub(crate) fn number(rt: &impl Print, n: usize) {
 // A number of up to 39 digits.
 fn word(rt: &impl Print, n: Word) {
     let mut digits = [0u8; 39];
-    let count = text::write_number(n, &mut digits);
-    say(rt, slices::bytes(&digits, count));
+    if let Some(count) = text::write_number(n, &mut digits) {
+        say(rt, slices::first(&digits, count));
+    }
 }
 
 // The pattern of a rule, as it is written.
 pub(crate) fn pattern(rt: &impl Print, width: u32, rule: Rule) {
     let mut space = [0u8; 128];
-    let count = text::write_pattern(width, rule, &mut space);
-    say(rt, slices::bytes(&space, count));
+    if let Some(count) = text::write_pattern(width, rule, &mut space) {
+        say(rt, slices::first(&space, count));
+    }
 }
 
 // A rule: its pattern and its decision.
@@ -77,7 +79,7 @@ pub(crate) fn place(rt: &impl Print, before: &[u8], list: usize, rule: usize) {
 // A refusal, with its place where it has one: a list, and a rule or 0.
 pub(crate) fn refusal(rt: &impl Print, x: Refusal) {
     say(rt, b"refused ");
-    number(rt, x.number);
+    number(rt, x.reason.number());
     if x.list > 0 {
         place(rt, b" at ", x.list, x.rule);
     } else {
@@ -87,7 +89,7 @@ pub(crate) fn refusal(rt: &impl Print, x: Refusal) {
 
 // A refusal of what was asked of the list with that id. Where no list has the id, the line says which, and goes on with its own end.
 pub(crate) fn refusal_of(rt: &impl Print, x: Refusal, id: Word, end: &[u8]) {
-    if x.number == 15 {
+    if x.reason == Reason::NoSuchList {
         say(rt, b"refused 15: no list ");
         word(rt, id);
         say(rt, end);

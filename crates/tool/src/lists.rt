@@ -3,7 +3,7 @@ use crate::commands::Request;
 use crate::{lines, questions, squeezing};
 use command_line::Command;
 use image::Listed;
-use rules::Verdict;
+use rules::{Reason, Refusal};
 use std::io::Print;
 use words::Word;
 
@@ -13,21 +13,19 @@ pub(crate) fn short(id: Word) -> u16 {
 }
 
 // Why an image has no list with that id. An id above 65,535 is that of no list: the image's own refusals, then 15.
-fn sought(image: &[u8], id: Word) -> Verdict {
-    if words::capped(id) <= 65535 {
-        return image::body_refusal(image, short(id));
-    }
-    let v = image::check(image);
-    match v {
-        Verdict::Fine => rules::refused(15, 0, 0),
-        Verdict::Refused(_) => v,
+fn sought(image: &[u8], id: Word) -> Result<(), Refusal> {
+    match u16::try_from(words::capped(id)) {
+        Ok(id) => image::body_refusal(image, id),
+        Err(_) => {
+            image::check(image)?;
+            rules::refused(Reason::NoSuchList, 0, 0)
+        }
     }
 }
 
 // Whether an image has a list with that id; where it has none, a line says why, with its own end where that is 15.
 pub(crate) fn has(rt: &impl Print, image: &[u8], id: Word, end: &[u8]) -> bool {
-    let v = sought(image, id);
-    if let Verdict::Refused(x) = v {
+    if let Err(x) = sought(image, id) {
         lines::refusal_of(rt, x, id, end);
         return false;
     }
@@ -36,18 +34,15 @@ pub(crate) fn has(rt: &impl Print, image: &[u8], id: Word, end: &[u8]) -> bool {
 
 // check FILE and show FILE
 pub(crate) fn tell(rt: &impl Print, image: &[u8], request: Request) {
-    let v = image::check(image);
-    match v {
-        Verdict::Fine => {
-            let command = request.command;
-            if let Command::Check = command {
-                lines::named(rt, b"accepted\nformat ", image_form::byte_at(image, 0));
-                lines::named(rt, b"width ", image_form::byte_at(image, 1));
-            }
-            each(rt, image, request);
-        }
-        Verdict::Refused(x) => lines::refusal(rt, x),
+    if let Err(x) = image::check(image) {
+        lines::refusal(rt, x);
+        return;
     }
+    if let Command::Check = request.command {
+        lines::named(rt, b"accepted\nformat ", image_form::byte_at(image, 0));
+        lines::named(rt, b"width ", image_form::byte_at(image, 1));
+    }
+    each(rt, image, request);
 }
 
 // Says of one list after the other what the command asks for. An image has at most 16.
@@ -59,11 +54,9 @@ pub(crate) fn each(rt: &impl Print, image: &[u8], request: Request) {
 
 // How many rules a list has, what weaving or pruning makes of it, or its rules.
 fn say_entry(rt: &impl Print, image: &[u8], k: usize, request: Request) {
-    let e = image::entry(image, k);
-    if let Listed::List { id, rules } = e {
-        let command = request.command;
+    if let Ok(Listed { id, rules }) = image::entry(image, k) {
         lines::list(rt, id);
-        match command {
+        match request.command {
             Command::Check => lines::named(rt, b" rules ", rules),
             Command::Weave => squeezing::report(rt, image, id, rules),
             Command::Prune => {

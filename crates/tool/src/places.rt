@@ -8,7 +8,7 @@ pub(crate) fn place(at: usize, i: usize) -> usize {
             return at + i;
         }
     }
-    18446744073709551615
+    usize::MAX
 }
 
 // The place of the last word but two of a command line with so many words, its name among them; that of the name where there are fewer.

@@ -2,11 +2,9 @@
 use crate::commands::Request;
 use crate::{lines, lists, slices, squeezing};
 use command_line::Command;
-use image::NumberAnswer;
-use rules::{Hit, Looked, Refusal, Verdict};
+use rules::{Hit, Reason, Refusal, RuleList};
 use std::io::Print;
 use swaps::Swap;
-use weaving::Counted;
 
 // The list with the id that was named, where it is there.
 pub(crate) fn ask_by_id(rt: &impl Print, image: &[u8], request: Request) {
@@ -20,53 +18,51 @@ pub(crate) fn ask(rt: &impl Print, image: &[u8], id: u16, request: Request) {
     let mut care = [0u64; 2048];
     let mut value = [0u64; 2048];
     let mut decision = [0u16; 1024];
-    let o = image::read(image, id, &mut care, &mut value, &mut decision);
-    match o {
-        NumberAnswer::Number(n) => answered(
+    match image::read(image, id, &mut care, &mut value, &mut decision) {
+        Ok(n) => answered(
             rt,
             image,
-            slices::words(&care, n),
-            slices::words(&value, n),
-            slices::shorts(&decision, n),
+            RuleList {
+                care: slices::words(&care, n),
+                value: slices::words(&value, n),
+                decision: slices::first(&decision, n),
+            },
             request,
         ),
-        NumberAnswer::Refused(x) => lines::refusal(rt, x),
+        Err(x) => lines::refusal(rt, x),
     }
 }
 
 fn answered(
     rt: &impl Print,
     image: &[u8],
-    care: &[u64],
-    value: &[u64],
-    decision: &[u16],
+    rules: RuleList,
     request: Request,
 ) {
     let width = image_form::byte_at(image, 1) as u32;
-    let command = request.command;
-    match command {
+    match request.command {
         Command::Lookup => answer(
             rt,
-            rules::lookup(width, care, value, decision, request.header),
+            rules::lookup(width, rules, request.header),
         ),
-        Command::Runs => runs(rt, width, care, value, decision),
-        Command::Prune => squeezing::prune(rt, width, care, value, decision),
-        _ => show_rules(rt, width, care, value, decision),
+        Command::Runs => runs(rt, width, rules),
+        Command::Prune => squeezing::prune(rt, width, rules),
+        _ => show_rules(rt, width, rules),
     }
 }
 
-fn show_rules(rt: &impl Print, width: u32, care: &[u64], value: &[u64], decision: &[u16]) {
-    for i in 0..decision.len() {
-        lines::rule(rt, width, rules::rule_at(care, value, decision, i));
+fn show_rules(rt: &impl Print, width: u32, rules: RuleList) {
+    for i in 0..rules.decision.len() {
+        lines::rule(rt, width, rules::rule_at(rules, i));
         lines::byte(rt, b'\n');
     }
 }
 
-fn answer(rt: &impl Print, l: Looked) {
+fn answer(rt: &impl Print, l: Result<Option<Hit>, Refusal>) {
     match l {
-        Looked::Hit(x) => show_hit(rt, x),
-        Looked::Miss => lines::say(rt, b"none\n"),
-        Looked::Refused(x) => lines::refusal(rt, x),
+        Ok(Some(x)) => show_hit(rt, x),
+        Ok(None) => lines::say(rt, b"none\n"),
+        Err(x) => lines::refusal(rt, x),
     }
 }
 
@@ -76,15 +72,14 @@ fn show_hit(rt: &impl Print, hit: Hit) {
     lines::named(rt, b" rule ", hit.number);
 }
 
-fn runs(rt: &impl Print, width: u32, care: &[u64], value: &[u64], decision: &[u16]) {
+fn runs(rt: &impl Print, width: u32, rules: RuleList) {
     let mut sizes = [0u16; 1024];
-    let c = weaving::runs(width, care, value, decision, &mut sizes);
-    match c {
-        Counted::Runs(n) => {
-            show_sizes(rt, slices::shorts(&sizes, n));
-            show_order(rt, width, care, value, decision);
+    match weaving::runs(width, rules, &mut sizes) {
+        Ok(n) => {
+            show_sizes(rt, slices::first(&sizes, n));
+            show_order(rt, width, rules);
         }
-        Counted::Refused(x) => lines::refusal(rt, x),
+        Err(x) => lines::refusal(rt, x),
     }
 }
 
@@ -96,18 +91,15 @@ fn show_sizes(rt: &impl Print, sizes: &[u16]) {
 }
 
 // The prefix bit-swap, or the first two rules that cross.
-fn show_order(rt: &impl Print, width: u32, care: &[u64], value: &[u64], decision: &[u16]) {
-    let a = prefixes::prefix_swap(width, care, value, decision);
-    let v = a.verdict;
-    let swap = a.swap;
-    match v {
-        Verdict::Fine => show_swap(rt, swap),
-        Verdict::Refused(x) => crossing(rt, x),
+fn show_order(rt: &impl Print, width: u32, rules: RuleList) {
+    match prefixes::prefix_swap(width, rules) {
+        Ok(swap) => show_swap(rt, swap),
+        Err(x) => crossing(rt, x),
     }
 }
 
 fn crossing(rt: &impl Print, x: Refusal) {
-    if x.number == 8 {
+    if x.reason == Reason::Crossing {
         lines::place(rt, b"crossing ", x.list, x.rule);
     } else {
         lines::refusal(rt, x);
@@ -117,7 +109,7 @@ fn crossing(rt: &impl Print, x: Refusal) {
 fn show_swap(rt: &impl Print, swap: Swap) {
     lines::say(rt, b"prefix swap");
     let places = swap.places;
-    show_places(rt, slices::bytes(&places, swap.width as usize));
+    show_places(rt, slices::first(&places, swap.width as usize));
     lines::byte(rt, b'\n');
 }
 

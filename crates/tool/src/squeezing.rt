@@ -2,29 +2,26 @@
 use crate::commands::Request;
 use crate::{files, lines, lists, slices};
 use command_line::Command;
-use image::NumberAnswer;
-use pruning::{Pruned, Tally};
+use pruning::Tally;
+use rules::{Refusal, RuleList};
 use std::io::Print;
 use std::rt::{Env, Files};
-use weaving::Woven;
 
 // weave FILE OUT and prune FILE OUT. The image is made whole before there is a file of it, and the lines are written once the file is in its
 // place.
 pub(crate) fn squeeze(rt: &(impl Env + Files + Print), at: usize, image: &[u8], request: Request) {
-    let command = request.command;
     let mut squeezed = [0u8; 65536];
-    let o = squeezed_image(command, image, &mut squeezed);
-    match o {
-        NumberAnswer::Number(n) => {
-            if files::save_word(rt, at, 3, slices::bytes(&squeezed, n)) {
+    match squeezed_image(request.command, image, &mut squeezed) {
+        Ok(n) => {
+            if files::save_word(rt, at, 3, slices::first(&squeezed, n)) {
                 lists::each(rt, image, request);
             }
         }
-        NumberAnswer::Refused(x) => lines::refusal(rt, x),
+        Err(x) => lines::refusal(rt, x),
     }
 }
 
-fn squeezed_image(command: Command, image: &[u8], out: &mut [u8]) -> NumberAnswer {
+fn squeezed_image(command: Command, image: &[u8], out: &mut [u8]) -> Result<usize, Refusal> {
     match command {
         Command::Prune => image_weaving::prune_image(image, out),
         _ => image_weaving::weave_image(image, out),
@@ -46,13 +43,12 @@ fn counts(rt: &impl Print, kept: usize, dropped: usize) {
 // What became of a list with so many rules that was woven, after its name.
 pub(crate) fn report(rt: &impl Print, image: &[u8], id: u16, rules: usize) {
     begin(rt, rules);
-    let w = image_weaving::tally(image, id);
-    match w {
-        Woven::Done(t) => {
+    match image_weaving::tally(image, id) {
+        Ok(t) => {
             counts(rt, t.kept, t.dropped);
             merges(rt, t.merged);
         }
-        Woven::Refused(x) => lines::refusal(rt, x),
+        Err(x) => lines::refusal(rt, x),
     }
 }
 
@@ -63,24 +59,29 @@ fn merges(rt: &impl Print, merged: usize) {
 }
 
 // What becomes of a list that is pruned: the counts, and a line for each rule that is kept.
-pub(crate) fn prune(rt: &impl Print, width: u32, care: &[u64], value: &[u64], decision: &[u16]) {
+pub(crate) fn prune(rt: &impl Print, width: u32, rules: RuleList) {
     let mut cares = [0u64; 2048];
     let mut values = [0u64; 2048];
     let mut decisions = [0u16; 1024];
     let mut headers = [0u64; 2048];
-    let p = pruning::prune(
+    let pruned = pruning::prune(
         width,
-        care,
-        value,
-        decision,
+        rules,
         &mut cares,
         &mut values,
         &mut decisions,
         &mut headers,
     );
-    match p {
-        Pruned::Done(t) => show_kept(rt, width, t, &cares, &values, &decisions, &headers),
-        Pruned::Refused(x) => lines::refusal(rt, x),
+    match pruned {
+        Ok(t) => {
+            let kept = RuleList {
+                care: &cares,
+                value: &values,
+                decision: &decisions,
+            };
+            show_kept(rt, width, t, kept, &headers);
+        }
+        Err(x) => lines::refusal(rt, x),
     }
 }
 
@@ -89,16 +90,14 @@ fn show_kept(
     rt: &impl Print,
     width: u32,
     tally: Tally,
-    care: &[u64],
-    value: &[u64],
-    decision: &[u16],
+    rules: RuleList,
     header: &[u64],
 ) {
     let kept = tally.kept;
     counts(rt, kept, tally.dropped);
     lines::byte(rt, b'\n');
     for i in 0..kept {
-        lines::rule(rt, width, rules::rule_at(care, value, decision, i));
+        lines::rule(rt, width, rules::rule_at(rules, i));
         lines::needed(rt, words::word_at(header, i));
     }
 }

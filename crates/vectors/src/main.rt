@@ -3,7 +3,6 @@
 // stdout.
 #![tactic(auto)]
 
-use compare::Ending;
 use host::{say, say_number};
 use std::io::Print;
 use std::rt::{Env, Files};
@@ -18,11 +17,9 @@ fn compare_files(rt: &(impl Files + Print), old_path: &[u8], new_path: &[u8]) {
     let mut old = [0u8; 65537];
     let mut new = [0u8; 65537];
     let files = run_lines::show_files(rt, old_path, new_path, &mut old, &mut new);
-    let compared = files.compared;
-    let ending = compared.ending;
-    if let Ending::Refused(x) = ending {
+    if let Err(x) = files.compared {
         say(rt, b"refused ");
-        say_number(rt, x.number as u64);
+        say_number(rt, x.reason.number() as u64);
         say(rt, b"\n");
     }
 }

@@ -5,6 +5,7 @@ use mathlib.Core.List.{List, [], ◌∷◌}
 use Prim.Native.Nat.{ℕ, ◌+◌, ◌*◌, ◌≤◌}
 use native.Mathlib.Omega.{arith}
 use lib.ListN.{length, take}
+use Rattle.std.specs.Prelude.{Ok, Err}
 use Rattle.rules.specs.Rule.{Rule}
 use Rattle.rules.specs.Rules.{answer}
 use Rattle.rules.specs.declared.Refusal.{Refusal}
@@ -17,9 +18,7 @@ use Rattle.rules.proofs.SliceLaws.{rules-length}
 use Rattle.rules.proofs.PaddedLaws.{front-together, front-rules}
 use Rattle.rules.proofs.CheckLaws.{list-sound, list-first}
 use Rattle.rules.proofs.AnswerLaws.{decide-alike}
-use Rattle.weaving.specs.declared.Counted.{Counted}
 use Rattle.weaving.specs.declared.Tally.{Tally}
-use Rattle.weaving.specs.declared.Woven.{Woven}
 use Rattle.weaving.specs.Weave.{weave, kept, dropped, merges}
 use Rattle.weaving.specs.Calls.{RunsDone, weave_reply, WeaveDone}
 use Rattle.weaving.proofs.Theorems.{weave-keeps-answers, weave-keeps-some, counts-add-up, woven-list-passes}
@@ -37,7 +36,7 @@ kept_decisions t decisions = take t.kept decisions
 -- ---- weaving
 
 module _ (w : ℕ) (cs vs ds ocs ovs ods ocs' ovs' ods' : List ℕ) (t : Tally)
-    (D : WeaveDone w cs vs ds ocs ovs ods ocs' ovs' ods' (Woven.Done t)) where
+    (D : WeaveDone w cs vs ds ocs ovs ods ocs' ovs' ods' (Ok t)) where
   abbrev woven : List Rule
   woven = weave w (rules_of cs vs ds)
 
@@ -107,11 +106,11 @@ module _ (w : ℕ) (cs vs ds ocs ovs ods ocs' ovs' ods' : List ℕ) (t : Tally)
 
 -- A refused `weave` leaves the three result slices as they were.
 pub refused-leaves : (w : ℕ) (cs vs ds ocs ovs ods ocs' ovs' ods' : List ℕ) (x : Refusal)
-    → WeaveDone w cs vs ds ocs ovs ods ocs' ovs' ods' (Woven.Refused x) → (ocs' ≡ ocs) × (ovs' ≡ ovs) × (ods' ≡ ods)
+    → WeaveDone w cs vs ds ocs ovs ods ocs' ovs' ods' (Err x) → (ocs' ≡ ocs) × (ovs' ≡ ovs) × (ods' ≡ ods)
 refused-leaves w cs vs ds ocs ovs ods ocs' ovs' ods' x D =
     (rw (sym D.reply) at D.cares, rw (sym D.reply) at D.values, rw (sym D.reply) at D.decisions)
 
 -- A refused `runs` leaves the slice of sizes as it was.
 pub runs-refused-leaves : (w : ℕ) (cs vs ds sizes sizes' : List ℕ) (x : Refusal)
-    → RunsDone w cs vs ds sizes sizes' (Counted.Refused x) → sizes' ≡ sizes
+    → RunsDone w cs vs ds sizes sizes' (Err x) → sizes' ≡ sizes
 runs-refused-leaves w cs vs ds sizes sizes' x D = rw (sym D.reply) at D.after

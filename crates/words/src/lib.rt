@@ -2,12 +2,13 @@
 #![tactic(auto)]
 
 mod machine;
+mod operators;
 mod order;
 mod slices;
 mod steps;
 
-pub use machine::{capped, wide};
-pub use order::{below, is_zero, less, same};
+pub use machine::capped;
+pub use order::{below, is_zero, less};
 pub use slices::{put_word, word_at};
 pub use steps::{before, plus, pushed};
 

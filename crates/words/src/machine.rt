@@ -5,10 +5,12 @@ ghost use Rattle.words.specs.Halves.{num, halves};
 use crate::Word;
 
 // The word that holds a machine word's number.
-pub fn wide(n: u64) -> Word
-    ensures { result ≡ halves n }
-{
-    Word { low: n, high: 0 }
+impl From<u64> for Word {
+    ghost from_gives = { λ n w. w ≡ halves n };
+
+    fn from(n: u64) -> Word {
+        Word { low: n, high: 0 }
+    }
 }
 
 // The number of a word, where a machine word holds it; else the greatest number that a machine word holds.
@@ -18,5 +20,5 @@ pub fn capped(a: Word) -> u64
     if a.high == 0 {
         return a.low;
     }
-    18446744073709551615
+    u64::MAX
 }

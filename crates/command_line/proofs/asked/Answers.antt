@@ -1,6 +1,5 @@
 use mathlib.Core.Path.{sym, ◌∙◌}
 use native.Mathlib.Omega.{arith}
-use Rattle.command_line.specs.Words.{wanted_of}
 use Rattle.command_line.proofs.WordLaws.{defaults-long}
 use Rattle.command_line.proofs.asked.Goals as goal
 
@@ -12,11 +11,3 @@ overflow_sub-result c = omega (arith, defaults-long _ _ _ (sym c.names_defaults.
 
 pub overflow_sub-result-then-names_defaults : goal.overflow_sub-result-then-names_defaults
 overflow_sub-result-then-names_defaults c = omega (arith, defaults-long _ _ _ (sym c.names_defaults.ensures ∙ c.if-names_defaults.true))
-
-pub returns-then-names_defaults : goal.returns-then-names_defaults
-unfolding wanted_of
-returns-then-names_defaults c = simp (sym c.names_defaults.ensures ∙ c.if-names_defaults.true, c.command_of.ensures)
-
-pub returns : goal.returns
-unfolding wanted_of
-returns c = simp (sym c.names_defaults.ensures ∙ c.if-names_defaults.false, c.command_of-2.ensures)

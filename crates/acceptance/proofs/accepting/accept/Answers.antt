@@ -1,12 +1,12 @@
-use Rattle.rules.proofs.ReplyLaws.{verdict-passed}
+use mathlib.Core.Path.{sym}
 use Rattle.acceptance.proofs.CallLaws.{both-sound, accept-refused, accept-judged}
 use Rattle.acceptance.proofs.accepting.accept.Goals as goal
 
-pub returns-in_default : goal.returns-in_default
-returns-in_default c = accept-refused _ _ _ _ _ _ _ _ c.candidate_verdict-verdict.ensures _ c.in_default.is c.alone.ensures
+pub returns-in_err-check_candidate : goal.returns-in_err-check_candidate
+returns-in_err-check_candidate c = accept-refused _ _ _ _ _ _ _ _ _ c.from_residual.ensures.1 c.in_err-check_candidate.ensures
 
 pub judged-requires : goal.judged-requires
-judged-requires c = both-sound _ _ _ _ _ _ _ (verdict-passed _ _ c.candidate_verdict-verdict.ensures c.in-Fine.is)
+judged-requires c = both-sound _ _ _ _ _ _ _ (sym c.in_ok-check_candidate.ensures)
 
 pub returns : goal.returns
-returns c = accept-judged _ _ _ _ _ _ _ _ c.candidate_verdict-verdict.ensures _ c.in-Fine.is c.judged.ensures
+returns c = accept-judged _ _ _ _ _ _ _ _ c.in_ok-check_candidate.ensures c.judged.ensures

@@ -1,28 +1,19 @@
-use Prim.Native.Nat.{◌+◌, ◌-◌}
-use mathlib.Core.Path.{◌≡◌, refl}
-use lib.Pow.{pow_pos}
-use lib.Count.{leading_le}
+use mathlib.Core.Path.{refl}
 use Rattle.words.specs.Halves.{num}
 use Rattle.words.proofs.WordLaws.{holds, num-lt}
 use Rattle.compare.proofs.EngineNumbers.{lowest-told}
-use Rattle.compare.proofs.EngineBlocks.{block-few, ends}
+use Rattle.compare.proofs.EngineBlocks.{block-few}
 use Rattle.compare.proofs.SweepPlaces.{few-places, parted-one, parted-two}
 use native.Mathlib.Omega.{arith}
 use Rattle.compare.proofs.blocks.parts_of.Goals as goal
-
-pub overflow_sub-t : goal.overflow_sub-t
-overflow_sub-t c = omega (arith, c.leading_zeros-t.ensures, leading_le 128 (num c.and.result))
 
 pub returns-then-t-k : goal.returns-then-t-k
 returns-then-t-k c = (
   refl,
   λ u v S. parted-one (num c.args.base) c.args.k (num c.args.h) (num c.args.places) c.requires.0 c.requires.2 c.requires.3 _ _ c.above.ensures c.if-t-k.true
-      (few-places (num c.args.places) _ _ _ _ c.args.k (lowest-told c.args.k (block-few (num c.args.base) c.args.k c.requires.0) c.lowest.ensures) (holds c.and.ensures) (num-lt _ (omega arith) (omega arith)) c.leading_zeros-t.ensures refl)
-      _ refl (holds c.and-at.ensures) (holds c.and-at.ensures) u v S,
+      (few-places (num c.args.places) _ _ _ _ c.args.k (lowest-told c.args.k (block-few (num c.args.base) c.args.k c.requires.0) c.lowest.ensures) (holds c.bitand.ensures) (num-lt _ (omega arith) (omega arith)) c.leading_zeros-t.ensures refl)
+      _ refl (holds c.bitand-at.ensures) (holds c.bitand-at.ensures) u v S,
 )
-
-pub after-requires : goal.after-requires
-after-requires c = let next : c.args.k - 1 + 1 ≡ c.args.k = omega (arith, c.requires.1) in (omega (arith, block-few (num c.args.base) c.args.k c.requires.0, c.requires.1), omega (arith, ends (num c.args.base) c.args.k (c.args.k - 1) c.requires.0 next, c.requires.0.fits, pow_pos (c.args.k - 1)))
 
 pub returns : goal.returns
 returns c = (refl, λ u v S. parted-two (num c.args.base) c.args.k (num c.args.h) (num c.args.places) c.requires.0 c.requires.2 c.requires.3 c.requires.1 _ refl refl c.after.ensures u v)

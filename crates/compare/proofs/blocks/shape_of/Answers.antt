@@ -15,20 +15,8 @@ returns-then-k-eq0 c = shape-piece _ _ _ _ _ _ _ _ (ltb-false _ _ (sym c.less.en
 pub returns-then-answer-a : goal.returns-then-answer-a
 returns-then-answer-a c = shape-mixed _ _ _ _ _ _ c.if-k-eq0.false
 
-pub returns-then-answer-b : goal.returns-then-answer-b
-returns-then-answer-b c = shape-mixed _ _ _ _ _ _ c.if-k-eq0.false
-
-pub steady-requires : goal.steady-requires
-steady-requires c = (c.requires.0, c.requires.2, c.requires.4, c.answer-a.ensures)
-
-pub steady-requires-then-steady : goal.steady-requires-then-steady
-steady-requires-then-steady c = (c.requires.1, c.requires.3, c.requires.4, c.answer-b.ensures)
-
 pub returns-then-steady-2 : goal.returns-then-steady-2
 returns-then-steady-2 c = shape-piece _ _ _ _ _ _ _ _ (ltb-false _ _ (sym c.less.ensures ∙ c.if-less.false)) c.if-a-b.false (c.steady.ensures c.if-steady.true) (c.steady-then-steady.ensures c.if-steady-2.true)
 
-pub returns-else-steady-2 : goal.returns-else-steady-2
-returns-else-steady-2 c = shape-mixed _ _ _ _ _ _ c.if-k-eq0.false
-
-pub returns-else-steady : goal.returns-else-steady
-returns-else-steady c = shape-mixed _ _ _ _ _ _ c.if-k-eq0.false
+pub returns : goal.returns
+returns c = shape-mixed _ _ _ _ _ _ c.if-k-eq0.false

@@ -5,12 +5,12 @@ use native.Mathlib.Omega.{arith}
 use Rattle.compare.proofs.engine_choice.pick.Goals as goal
 
 pub overflow_sub-result : goal.overflow_sub-result
-overflow_sub-result c = omega (arith, free-place _ _ _ (num-lt c.args.care (omega arith) (omega arith)) c.requires (holds c.flip.ensures) c.leading_zeros.ensures)
+overflow_sub-result c = omega (arith, free-place _ _ _ (num-lt c.args.care (omega arith) (omega arith)) c.requires (holds c.not.ensures) c.leading_zeros.ensures)
 
 pub returns-then-is_zero : goal.returns-then-is_zero
 returns-then-is_zero c = (
   omega arith,
-  (free-place _ _ _ (num-lt c.args.care (omega arith) (omega arith)) c.requires (holds c.flip.ensures) c.leading_zeros.ensures).1,
+  (free-place _ _ _ (num-lt c.args.care (omega arith) (omega arith)) c.requires (holds c.not.ensures) c.leading_zeros.ensures).1,
   num-lt c.args.care (omega arith) (omega arith),
 )
 

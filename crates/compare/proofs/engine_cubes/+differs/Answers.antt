@@ -1,71 +1,56 @@
-use mathlib.Core.Path.{refl, sym, ap, ap₂, ◌∙◌}
+use mathlib.Core.Path.{refl}
 use mathlib.Core.Bool.{false≢true}
-use lib.Bits.{bit_and, bit_or}
-use Rattle.words.specs.Halves.{num}
 use Rattle.words.proofs.WordLaws.{holds, num-lt}
 use Rattle.compare.proofs.EngineMembers.{none-member}
-use Rattle.compare.proofs.EngineHalves.{less-free, low-valid, high-valid, told_same, told-apart, told-split, say-at, say-same, say-found, say-both, still}
+use Rattle.compare.proofs.EngineHalves.{told_same, told-apart, say-at, say-same, split-less, split-low, split-high, split-alike, say-found, say-both}
 use native.Mathlib.Omega.{arith}
 use Rattle.compare.proofs.engine_cubes.+differs.Goals as goal
 
 pub narrow-requires : goal.narrow-requires
-narrow-requires t c = let P = c.requires.0 in (P.few, P.values, P.within, refl, none-member)
+narrow-requires t c = (c.requires.0, refl, none-member)
 
 pub narrow-requires-2 : goal.narrow-requires-2
-narrow-requires-2 t c = let P = c.requires.1 in (P.few, P.values, P.within, refl, none-member)
-
-pub look_at-look-requires : goal.look_at-look-requires
-look_at-look-requires t c = let a = c.args in
-    let P = c.requires in (
-      P.0,
-      P.1,
-      c.narrow.ensures.within,
-      c.narrow-2.ensures.within,
-      λ e. still _ _ _ _ _ _ (c.narrow.ensures.same a.od.now a.om) (c.narrow-2.ensures.same a.nd.now a.nm) _ P.2 (P.3 e),
-    )
-
-pub differs-found-requires : goal.differs-found-requires
-differs-found-requires t c = let L = num-lt c.or.result (omega arith) (omega arith) in
-    let a = c.args in
-    let P = c.requires in
-    let S = told-split _ _ _ _ _ c.look_at-look.ensures c.in-Split.is in
-    let E = holds c.or.ensures ∙ ap (bit_or (num a.cube.care)) S.0.weight in (
-      less-free (num a.cube.care) (num a.cube.value) S.0.place S.0.free P.2 _ t E L c.decreases,
-      (P.0, P.1, ap (bit_and (num a.cube.value)) E ∙ low-valid (num a.cube.care) (num a.cube.value) S.0.place S.0.free P.2, λ e. S.1),
-    )
-
-pub returns-in_default : goal.returns-in_default
-returns-in_default t c = let a = c.args in
-    let P = c.requires in
-    let S = told-split _ _ _ _ _ c.look_at-look.ensures c.in-Split.is in
-    let E = holds c.or.ensures ∙ ap (bit_or (num a.cube.care)) S.0.weight in
-    say-found _ _ _ _ _ _ (c.narrow.ensures.same a.od.now a.om) (c.narrow-2.ensures.same a.nd.now a.nm) _ S.0.free P.2 _ E _ c.differs-found.ensures c.in_default.is
+narrow-requires-2 t c = (c.requires.1, refl, none-member)
 
 pub differs-requires : goal.differs-requires
-differs-requires t c = let L = num-lt c.or.result (omega arith) (omega arith) in
-    let a = c.args in
+differs-requires t c =
     let P = c.requires in
-    let S = told-split _ _ _ _ _ c.look_at-look.ensures c.in-Split.is in
-    let E = holds c.or.ensures ∙ ap (bit_or (num a.cube.care)) S.0.weight in
-    let U = holds c.or-half.ensures ∙ ap (bit_or (num a.cube.value)) S.0.weight in (
-      less-free (num a.cube.care) (num a.cube.value) S.0.place S.0.free P.2 _ t E L c.decreases,
-      (P.0, P.1, ap₂ bit_and U E ∙ high-valid (num a.cube.care) (num a.cube.value) S.0.place S.0.free P.2 ∙ sym U, λ e. absurd (false≢true e)),
+    let F = c.narrow.ensures.same c.args.old.now.rules.decision.now c.args.old.now.miss in
+    let G = c.narrow-2.ensures.same c.args.new.now.rules.decision.now c.args.new.now.miss in
+    let T = c.in-Split.ensures in
+    let E = holds c.bitor.ensures in (
+      split-less _ _ _ _ _ _ F G _ T P.2 _ E t (num-lt c.bitor.result (omega arith) (omega arith)) c.decreases,
+      (P.0, P.1, split-low _ _ _ _ _ _ F G _ T P.2 _ E, λ e. split-alike _ _ _ _ _ _ F G _ T P.2 _ E),
     )
 
-pub returns-in-Alike : goal.returns-in-Alike
-returns-in-Alike t c = let a = c.args in
-    let P = c.requires in
-    say-same _ _ _ _ _ _ (c.narrow.ensures.same a.od.now a.om) (c.narrow-2.ensures.same a.nd.now a.nm) (told_same _ _ _ _ _ c.look_at-look.ensures c.in-Alike.is)
+pub returns-in-Some-clause-decided : goal.returns-in-Some-clause-decided
+returns-in-Some-clause-decided t c =
+    say-found _ _ _ _ _ _ (c.narrow.ensures.same c.args.old.now.rules.decision.now c.args.old.now.miss) (c.narrow-2.ensures.same c.args.new.now.rules.decision.now c.args.new.now.miss)
+    _ c.in-Split.ensures c.requires.2 _ (holds c.bitor.ensures) _ c.in-Some.ensures.decided
 
-pub returns-in-Unlike : goal.returns-in-Unlike
-returns-in-Unlike t c = let a = c.args in
+pub differs-requires-in-Split : goal.differs-requires-in-Split
+differs-requires-in-Split t c =
     let P = c.requires in
-    say-at _ _ _ _ _ _ (c.narrow.ensures.same a.od.now a.om) (c.narrow-2.ensures.same a.nd.now a.nm) _ P.2 (told-apart _ _ _ _ _ c.look_at-look.ensures c.in-Unlike.is)
+    let F = c.narrow.ensures.same c.args.old.now.rules.decision.now c.args.old.now.miss in
+    let G = c.narrow-2.ensures.same c.args.new.now.rules.decision.now c.args.new.now.miss in
+    let T = c.in-Split.ensures in
+    let E = holds c.bitor.ensures in (
+      split-less _ _ _ _ _ _ F G _ T P.2 _ E t (num-lt c.bitor.result (omega arith) (omega arith)) c.decreases,
+      (P.0, P.1, split-high _ _ _ _ _ _ F G _ T P.2 _ E _ (holds c.bitor-half.ensures), λ e. absurd (false≢true e)),
+    )
 
-pub returns-in-Nothing : goal.returns-in-Nothing
-returns-in-Nothing t c = let a = c.args in
-    let P = c.requires in
-    let S = told-split _ _ _ _ _ c.look_at-look.ensures c.in-Split.is in
-    let E = holds c.or.ensures ∙ ap (bit_or (num a.cube.care)) S.0.weight in
-    let U = holds c.or-half.ensures ∙ ap (bit_or (num a.cube.value)) S.0.weight in
-    say-both _ _ _ _ _ _ (c.narrow.ensures.same a.od.now a.om) (c.narrow-2.ensures.same a.nd.now a.nm) _ S.0.free P.2 _ E _ c.differs-found.ensures c.in-Nothing.is _ U _ c.differs.ensures
+pub returns-in-Alike-clause-decided : goal.returns-in-Alike-clause-decided
+returns-in-Alike-clause-decided t c =
+    say-same _ _ _ _ _ _ (c.narrow.ensures.same c.args.old.now.rules.decision.now c.args.old.now.miss) (c.narrow-2.ensures.same c.args.new.now.rules.decision.now c.args.new.now.miss) (told_same _ _ _ _ c.in-Alike.ensures)
+
+pub returns-in-Unlike-clause-decided : goal.returns-in-Unlike-clause-decided
+returns-in-Unlike-clause-decided t c =
+    say-at _ _ _ _ _ _ (c.narrow.ensures.same c.args.old.now.rules.decision.now c.args.old.now.miss) (c.narrow-2.ensures.same c.args.new.now.rules.decision.now c.args.new.now.miss) _ c.requires.2 (told-apart _ _ _ _ c.in-Unlike.ensures)
+
+pub returns-in-Unlike-clause-fits : goal.returns-in-Unlike-clause-fits
+returns-in-Unlike-clause-fits t c = num-lt c.args.cube.value (omega arith) (omega arith)
+
+pub returns-in_default-clause-decided : goal.returns-in_default-clause-decided
+returns-in_default-clause-decided t c =
+    say-both _ _ _ _ _ _ (c.narrow.ensures.same c.args.old.now.rules.decision.now c.args.old.now.miss) (c.narrow-2.ensures.same c.args.new.now.rules.decision.now c.args.new.now.miss)
+    _ c.in-Split.ensures c.requires.2 _ (holds c.bitor.ensures) _ (holds c.bitor-half.ensures) c.in_default.ensures.decided _ c.differs-in-Split.ensures.decided

@@ -1,38 +1,21 @@
 use Prim.Native.Nat.{◌<◌}
-use mathlib.Core.Bool.{false≢true}
-use lib.ListN.{length}
 use Rattle.words.proofs.Tests.{eqb_yes}
-use Rattle.words.specs.Slices.{words_of}
+use Rattle.compare.specs.EngineSets.{count_in}
 use Rattle.compare.proofs.EngineRules.{next-in}
-use Rattle.compare.proofs.EngineLockstep.{through-start, through-more, through-cover, only-miss}
+use Rattle.compare.proofs.EngineLockstep.{through-more, through-cover, only-miss}
 use native.Mathlib.Omega.{arith}
 use Rattle.compare.proofs.engine_cubes.only.Goals as goal
 
-pub loop-t-init : goal.loop-t-init
-loop-t-init c = (through-start _ _ _ _ _ _ _ _ _, c.requires.2.few, c.requires.2.found, c.requires.2.more)
-
-pub returns-then-decision-i : goal.returns-then-decision-i
-returns-then-decision-i c = λ e. absurd (false≢true e)
-
-pub rule_spans-requires : goal.rule_spans-requires
-rule_spans-requires c = let l : c.loop-t.t.at < length (words_of c.args.care.now) = omega (arith, c.loop-t-test.true, c.requires.0.decisions) in l
-
 pub returns-then-rule_spans : goal.returns-then-rule_spans
-returns-then-rule_spans c = λ e. let l : c.loop-t.t.at < length (words_of c.args.care.now) = omega (arith, c.loop-t-test.true, c.requires.0.decisions) in
+returns-then-rule_spans c = λ e. let l : c.loop-t.t.at < count_in c.args.side.now = omega (arith, c.loop-t-test.true, c.requires.0.decisions) in
     let L = c.loop-t in
-    through-cover _ _ _ _ _ _ _ _ _ L.t.at L.invariant.0 c.requires.0 c.requires.1 (L.invariant.2 l) l c.if-decision-i.false (c.rule_spans.ensures.0 c.if-rule_spans.true)
-
-pub next-t-requires : goal.next-t-requires
-next-t-requires c = let l : c.loop-t.t.at < length (words_of c.args.care.now) = omega (arith, c.loop-t-test.true, c.requires.0.decisions) in (c.loop-t.invariant.3 l, omega arith, omega (arith, c.requires.0.few, c.requires.0.decisions))
-
-pub loop-t-smaller : goal.loop-t-smaller
-loop-t-smaller c = let l : c.loop-t.t.at < length (words_of c.args.care.now) = omega (arith, c.loop-t-test.true, c.requires.0.decisions) in omega (arith, c.next-t.ensures.0.after)
+    through-cover _ _ _ _ _ _ _ _ _ L.t.at L.invariant.0 c.requires.0 c.requires.1 (L.invariant.2 l) l c.if-side-i.false (c.rule_spans.ensures.0 c.if-rule_spans.true)
 
 pub loop-t-preserved : goal.loop-t-preserved
-loop-t-preserved c = let l : c.loop-t.t.at < length (words_of c.args.care.now) = omega (arith, c.loop-t-test.true, c.requires.0.decisions) in
+loop-t-preserved c = let l : c.loop-t.t.at < count_in c.args.side.now = omega (arith, c.loop-t-test.true, c.requires.0.decisions) in
     let L = c.loop-t in
     let E = next-in c.requires.0.decisions c.next-t.ensures in
-    (through-more _ _ _ _ _ _ _ _ _ L.t.at _ L.invariant.0 l c.if-decision-i.false E.0.after E.0.few E.0.none, E.0.few, E.0.found, E.1)
+    (through-more _ _ _ _ _ _ _ _ _ L.t.at _ L.invariant.0 l c.if-side-i.false E.0.after E.0.few E.0.none, E.0.few, E.0.found, E.1)
 
 pub returns : goal.returns
 returns c = λ e. c.loop-t.invariant.0 (only-miss _ _ _ _ _ _ _ _ c.loop-t.t.at (omega (arith, c.loop-t.invariant.1, c.loop-t-test.false, c.requires.0.decisions)) (eqb_yes _ _ e))

@@ -7,6 +7,6 @@ use Rattle.compare.proofs.EngineNumbers.{says_of}
 use Rattle.compare.proofs.engine_cubes.same_outside.Goals as goal
 
 pub returns : goal.returns
-returns c = (says_of _ _ c.same.ensures
-    (holds c.or.ensures ∙ ap (λ (x : ℕ). bit_or x (num c.args.care)) c.read.ensures)
-    (holds c.or-2.ensures ∙ ap (λ (x : ℕ). bit_or x (num c.args.care)) c.read-2.ensures)).0
+returns c = (says_of _ _ c.eq.ensures
+    (holds c.bitor.ensures ∙ ap (λ (x : ℕ). bit_or x (num c.args.care)) c.read.ensures)
+    (holds c.bitor-2.ensures ∙ ap (λ (x : ℕ). bit_or x (num c.args.care)) c.read-2.ensures)).0

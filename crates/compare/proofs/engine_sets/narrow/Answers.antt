@@ -1,29 +1,17 @@
 use Prim.Native.Nat.{◌*◌, ◌<◌}
-use lib.Count.{trailing_le, count_trailing_zeros}
-use lib.ListN.{length}
-use Rattle.words.specs.Slices.{words_of}
-use Rattle.words.proofs.SliceLaws.{words-length}
-use Rattle.compare.proofs.EngineWords.{fewer}
-use Rattle.compare.proofs.EngineSieve.{sieve-start, sieve-end, sieve-past, sieve-word, sieve-there, sieve-on, like-narrowed, like-kept}
+use lib.Count.{count_trailing_zeros}
+use Rattle.compare.specs.EngineSets.{count_in}
+use Rattle.compare.proofs.EngineSieve.{sieve-end, sieve-past, sieve-word, sieve-there, sieve-on, like-narrowed, like-kept}
 use native.Mathlib.Omega.{arith}
 use Rattle.compare.proofs.engine_sets.narrow.Goals as goal
 use Rattle.compare.proofs.engine_sets.narrow.Goals.{Else-w-n}
 
 -- A group of 64 rules that the test lets through begins at one of the rules.
-inside : (c : Else-w-n) → count_trailing_zeros 64 c.loop-some.some * 64 < length (words_of c.args.care.now)
-inside c = omega (arith, c.if-w-n.false, words-length c.args.care.now)
-
-pub loop-some-init : goal.loop-some-init
-loop-some-init c = let p = c.requires in sieve-start _ _ _ _ _ _ p.3 p.4
-
-pub overflow_cast-w : goal.overflow_cast-w
-overflow_cast-w c = omega (arith, trailing_le 64 c.loop-some.some)
-
-pub overflow_mul-w : goal.overflow_mul-w
-overflow_mul-w c = omega (arith, trailing_le 64 c.loop-some.some)
+inside : (c : Else-w-n) → count_trailing_zeros 64 c.loop-some.some * 64 < count_in c.args.side.now
+inside c = omega (arith, c.if-w-n.false, c.requires.0.decisions)
 
 pub returns-then-w-n : goal.returns-then-w-n
-returns-then-w-n c = sieve-past _ _ _ _ _ _ _ c.loop-some.invariant (omega (arith, c.if-w-n.true, words-length c.args.care.now))
+returns-then-w-n c = sieve-past _ _ _ _ _ _ _ c.loop-some.invariant (omega (arith, c.if-w-n.true, c.requires.0.decisions))
 
 pub sift-p-requires : goal.sift-p-requires
 sift-p-requires c =
@@ -31,7 +19,7 @@ sift-p-requires c =
     let L = c.loop-some in
     let l = inside (goal.at.sift-p-requires c).Else-w-n in
     let S = L.invariant in
-    (p.0, p.1, p.2, l, sieve-there _ _ _ _ _ _ _ S l p.0, sieve-word _ _ _ _ _ _ _ S l p.0)
+    (p.0.few, p.0.values, p.0.within, l, sieve-there _ _ _ _ _ _ _ S l p.0.few, sieve-word _ _ _ _ _ _ _ S l p.0.few)
 
 pub put_word-requires : goal.put_word-requires
 put_word-requires c =
@@ -39,17 +27,11 @@ put_word-requires c =
     let L = c.loop-some in
     let l = inside (goal.at.put_word-requires c).Else-w-n in
     let S = L.invariant in
-    let K = sieve-word _ _ _ _ _ _ _ S l p.0 in
-    (K.sized, omega (arith, p.0, l), K.above)
+    let K = sieve-word _ _ _ _ _ _ _ S l p.0.few in
+    (K.sized, omega (arith, p.0.few, l), K.above)
 
 pub returns-then-p : goal.returns-then-p
 returns-then-p c = like-narrowed _ _ _ _ c.put_word.ensures.1 _ _ _ (c.sift-p.ensures.0 c.if-p.true)
-
-pub overflow_sub-some : goal.overflow_sub-some
-overflow_sub-some c = omega (arith, c.loop-some-test.true)
-
-pub loop-some-smaller : goal.loop-some-smaller
-loop-some-smaller c = fewer c.loop-some.some c.loop-some-test.true
 
 pub loop-some-preserved : goal.loop-some-preserved
 loop-some-preserved c =
@@ -58,7 +40,7 @@ loop-some-preserved c =
     let l = inside (goal.at.loop-some-preserved c).Else-w-n in
     let S = L.invariant in
     let E = c.put_word.ensures in
-    sieve-on _ _ _ _ _ _ _ S l p.0 _ (like-kept _ _ _ _ E.1 _ _ _ _ E.0 (c.sift-p.ensures.1 c.if-p.false))
+    sieve-on _ _ _ _ _ _ _ S l p.0.few _ (like-kept _ _ _ _ E.1 _ _ _ _ E.0 (c.sift-p.ensures.1 c.if-p.false))
 
 pub returns : goal.returns
 returns c = sieve-end _ _ _ _ _ _ _ c.loop-some.invariant c.loop-some-test.false

@@ -1,13 +1,6 @@
-use lib.Count.{trailing_le}
-use Rattle.compare.proofs.EngineWords.{sought-start, sought-none, sought-more, sought-few, sought-after, sought-before, sought-found, sought-rest, some-place, fewer, not-zero}
+use Rattle.compare.proofs.EngineWords.{sought-none, sought-more, sought-after, sought-before, sought-found, sought-rest, some-place, fewer, not-zero}
 use native.Mathlib.Omega.{arith}
 use Rattle.compare.proofs.engine_sets.next.Goals as goal
-
-pub loop-x-init : goal.loop-x-init
-loop-x-init c = sought-start _ _ _ _ _ c.requires.0
-
-pub overflow_cast-w : goal.overflow_cast-w
-overflow_cast-w c = omega (arith, trailing_le 64 c.loop-x.rest)
 
 pub returns-then-w-ge16 : goal.returns-then-w-ge16
 returns-then-w-ge16 c = let L = c.loop-x in
@@ -25,29 +18,14 @@ pub loop-x-preserved : goal.loop-x-preserved
 loop-x-preserved c = let L = c.loop-x in
     sought-more _ _ _ _ _ L.invariant c.loop-x-test.true (omega arith)
 
-pub overflow_cast-t : goal.overflow_cast-t
-overflow_cast-t c = omega (arith, trailing_le 64 c.loop-x.x)
-
-pub overflow_mul-i : goal.overflow_mul-i
-overflow_mul-i c = let L = c.loop-x in
-    let ne = c.loop-x-test.false in
-    let l = some-place L.x c.known.ensures.1 ne in
-    omega (arith, sought-few _ _ _ _ _ L.invariant ne l)
-
-pub overflow_add-i : goal.overflow_add-i
-overflow_add-i c = let L = c.loop-x in
-    let ne = c.loop-x-test.false in
-    let l = some-place L.x c.known.ensures.1 ne in
-    omega (arith, sought-few _ _ _ _ _ L.invariant ne l)
-
 pub returns-then-i-n : goal.returns-then-i-n
 returns-then-i-n c = let L = c.loop-x in
     let ne = c.loop-x-test.false in
-    let l = some-place L.x c.known.ensures.1 ne in
+    let l = some-place L.x (omega arith) ne in
     (record { after = sought-after _ _ _ _ _ L.invariant ne l; few = omega arith; none = sought-before _ _ _ _ _ L.invariant ne l; found = λ u. sought-found _ _ _ _ _ L.invariant ne l }, λ u. sought-rest _ _ _ _ _ L.invariant ne l)
 
 pub returns : goal.returns
 returns c = let L = c.loop-x in
     let ne = c.loop-x-test.false in
-    let l = some-place L.x c.known.ensures.1 ne in
+    let l = some-place L.x (omega arith) ne in
     (record { after = omega arith; few = omega arith; none = λ k a b. sought-before _ _ _ _ _ L.invariant ne l k a (omega arith); found = λ l. absurd (let f : ⊥ = omega arith in f) }, λ l. absurd (let f : ⊥ = omega arith in f))

@@ -1,14 +1,7 @@
-use mathlib.Core.Path.{refl, sym}
-use Rattle.compare.proofs.EngineMembers.{put-sized, put-none}
-use Rattle.compare.proofs.EngineSieve.{written}
+use mathlib.Core.Path.{sym}
+use Rattle.compare.proofs.EngineMembers.{put-none}
 use native.Mathlib.Omega.{arith}
 use Rattle.compare.proofs.engine_sets.put_word.Goals as goal
-
-pub returns-then-keep-ne0 : goal.returns-then-keep-ne0
-returns-then-keep-ne0 c = let a = c.args in
-    let p = c.requires in
-    let e = written a.out.now a.w a.keep p.1 in
-    rw e (put-sized a.out.now a.w a.keep p.0 p.1, λ k. refl)
 
 pub returns-else-keep-ne0 : goal.returns-else-keep-ne0
 returns-else-keep-ne0 c = let a = c.args in

@@ -1,18 +1,21 @@
 use native.Mathlib.Omega.{arith}
-use Rattle.compare.proofs.SearchLaws.{needed-refused, needed-past, needed-sound, needed-found, needed-none}
+use Rattle.rules.proofs.ReplyLaws.{stop-up}
+use Rattle.compare.specs.Needed.{needed_at}
+use Rattle.compare.proofs.SearchLaws.{needed-past, needed-sound, needed-found, needed-none}
 use Rattle.compare.proofs.lowest.needed_at.Goals as goal
 
-pub returns-in-Refused : goal.returns-in-Refused
-returns-in-Refused c = needed-refused _ _ _ _ _ _ c.check_list-v.ensures _ c.in-Refused.is
+pub returns-in_err-check_list : goal.returns-in_err-check_list
+unfolding needed_at
+returns-in_err-check_list c = stop-up _ _ _ _ _ c.from_residual.ensures.1 c.in_err-check_list.ensures
 
-pub returns-then-position-decision : goal.returns-then-position-decision
-returns-then-position-decision c = needed-past _ _ _ _ _ _ c.check_list-v.ensures c.in_default.is c.if-position-decision.true
+pub returns-then-position-rules : goal.returns-then-position-rules
+returns-then-position-rules c = needed-past _ _ _ _ _ c.in_ok-check_list.ensures c.if-position-rules.true
 
-pub lowest_change-found-requires : goal.lowest_change-found-requires
-lowest_change-found-requires c = (needed-sound _ _ _ _ 0 _ c.check_list-v.ensures c.in_default.is, omega (arith, c.if-position-decision.false))
+pub lowest_change-requires : goal.lowest_change-requires
+lowest_change-requires c = (needed-sound _ _ _ _ 0 c.in_ok-check_list.ensures, omega (arith, c.if-position-rules.false))
 
-pub returns-in-At : goal.returns-in-At
-returns-in-At c = needed-found _ _ _ _ _ _ c.check_list-v.ensures c.in_default.is _ c.lowest_change-found.ensures _ _ c.in-At.is c.known_word.ensures.0 c.known_word.ensures.1
+pub returns-in_default : goal.returns-in_default
+returns-in_default c = needed-none _ _ _ _ _ c.in_ok-check_list.ensures c.in_default.ensures
 
-pub returns-in-Nothing : goal.returns-in-Nothing
-returns-in-Nothing c = needed-none _ _ _ _ _ _ c.check_list-v.ensures c.in_default.is _ c.lowest_change-found.ensures c.in-Nothing.is
+pub returns : goal.returns
+returns c = needed-found _ _ _ _ _ c.in_ok-check_list.ensures _ (omega arith) c.in-Some.ensures

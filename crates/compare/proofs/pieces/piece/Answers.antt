@@ -1,10 +1,6 @@
 use mathlib.Core.Path.{refl}
 use Rattle.compare.proofs.SweepLaws.{put-words, put-long, piece-long, piece-full, piece-more}
-use native.Mathlib.Omega.{arith}
 use Rattle.compare.proofs.pieces.piece.Goals as goal
-
-pub overflow_sub-count : goal.overflow_sub-count
-overflow_sub-count c = omega (arith, (c.joins.ensures.0 c.if-joins.true).some)
 
 pub returns-then-joins : goal.returns-then-joins
 returns-then-joins c = λ start from. piece-long start _ _ _ _ _ _ _ _ _ from c.requires.0 c.requires.1 c.requires.2 c.requires.3 _ (put-long _ _ _ _ c.put_word.ensures) (put-words _ _ _ _ c.put_word.ensures) (c.joins.ensures.0 c.if-joins.true)

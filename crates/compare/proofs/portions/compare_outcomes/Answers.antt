@@ -1,14 +1,13 @@
-use mathlib.Core.Path.{sym, ap, ◌∙◌}
-use Rattle.rules.specs.Replies.{verdict_reply}
+use mathlib.Core.Path.{sym}
 use Rattle.compare_check.proofs.OrderLaws.{comparison-ready}
 use Rattle.compare.proofs.DoneLaws.{stopped, went_on}
 use Rattle.compare.proofs.portions.compare_outcomes.Goals as goal
 
-pub returns-in-Refused : goal.returns-in-Refused
-returns-in-Refused c = stopped _ _ c.check_comparison-checks.ensures _ _ _ _ _ c.in-Refused.is
+pub returns-in_err-check_comparison : goal.returns-in_err-check_comparison
+returns-in_err-check_comparison c = stopped _ _ _ _ _ _ _ _ c.from_residual.ensures.1 c.in_err-check_comparison.ensures
 
 pub fill-requires : goal.fill-requires
-fill-requires c = let ready = comparison-ready _ _ _ _ _ _ _ _ _ _ _ _ _ _ (sym c.check_comparison-checks.ensures ∙ ap verdict_reply c.in_default.is) in
+fill-requires c = let ready = comparison-ready _ _ _ _ _ _ _ _ _ _ _ _ _ _ (sym c.in_ok-check_comparison.ensures) in
     record {
       sound = ready.old-list;
       sound_2 = ready.new-list;
@@ -17,4 +16,4 @@ fill-requires c = let ready = comparison-ready _ _ _ _ _ _ _ _ _ _ _ _ _ _ (sym 
     }
 
 pub returns : goal.returns
-returns c = went_on _ _ c.check_comparison-checks.ensures c.in_default.is _ _ _ _ c.args.old_default c.args.new_default _ _ c.miss_number.ensures c.miss_number-2.ensures _ _ _ _ _ _ _ _ _ c.fill.ensures
+returns c = went_on _ (sym c.in_ok-check_comparison.ensures) _ _ _ _ c.args.old_default c.args.new_default _ _ c.miss_number.ensures c.miss_number-2.ensures _ _ _ _ _ _ _ _ _ c.fill.ensures

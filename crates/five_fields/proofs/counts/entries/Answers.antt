@@ -1,60 +1,32 @@
 use Rattle.five_fields.proofs.CountLaws.{sound-most, left-count, left-none}
 use Rattle.five_fields.proofs.CheckLaws.{rules-sound, good-at, good-ports}
-use Rattle.five_fields.proofs.ListLaws.{rules-all}
-use Rattle.rules.specs.Replies.{passed}
-use Rattle.five_fields.specs.Calls.{rules_check}
-use Rattle.five_fields.specs.Expansion.{expansion, expanded}
+use Rattle.five_fields.specs.Expansion.{expansion}
 use Rattle.five_fields.specs.FiveFieldRules.{ports_fit}
 use Rattle.five_fields.specs.FiveFieldRule.{FiveFieldRule}
 use lib.ListN.{length}
 use native.Mathlib.Omega.{arith}
-use Prim.Native.Nat.{◌-◌}
 use mathlib.Core.Path.{◌≡◌, ap, ◌∙◌}
-use mathlib.Core.List.{List}
-use Rattle.five_fields.specs.Slices.{Slices, rules_from, rules_in}
+use Rattle.five_fields.specs.Slices.{rows, lent}
 use Rattle.five_fields.proofs.counts.entries.Goals as goal
-
--- The slices that a premise says pass the check of the rules, so that an answer need not spell them.
-abbrev read : (s : Slices) → rules_check s ≡ passed → Slices
-read s e = s
 
 -- Equal rules become as many entries.
 same-length : {r x : FiveFieldRule} → r ≡ x → length (expansion r) ≡ length (expansion x)
 same-length e = ap (λ (y : FiveFieldRule). length (expansion y)) e
 
--- At the start the entries of all rules are still to be counted.
-all-left : (s : Slices) → length (expanded (rules_from s 0 (length s.decisions - 0))) ≡ length (expanded (rules_in s))
-all-left s = ap (λ (rs : List FiveFieldRule). length (expanded rs)) (rules-all s)
-
-pub loop-i-init : goal.loop-i-init
-loop-i-init c =
-    let s = read _ c.requires in
-    (omega arith, omega (arith, all-left s))
-
 pub rule_count-n-requires : goal.rule_count-n-requires
 rule_count-n-requires c =
-    let s = read _ c.requires in
-    ap ports_fit c.rule_at-rule.ensures ∙ good-ports 0 _ (good-at s (rules-sound s c.requires) _ c.loop-i-test.true)
+    ap ports_fit c.rule_at.ensures ∙ good-ports 0 _ (good-at _ (rules-sound _ c.requires) _ c.loop-i-test.true)
 
 pub overflow_add-n : goal.overflow_add-n
-overflow_add-n c =
-    let s = read _ c.requires in
-    let o = c.loop-i in
-    let e = same-length c.rule_at-rule.ensures in
-    omega (arith, e, o.invariant.1, c.rule_count-n.ensures, left-count s o.i (length s.decisions) c.loop-i-test.true, sound-most s c.requires)
-
-pub overflow_add-i : goal.overflow_add-i
-overflow_add-i c = omega (arith, c.loop-i-test.true, c.well_formed.1.1.1.1.1.1.1.1.1.0)
+overflow_add-n c = let s = lent c.args.rules in
+    let e = same-length c.rule_at.ensures in
+    omega (arith, left-count s c.loop-i.i (rows s) c.loop-i-test.true, sound-most s c.requires)
 
 pub loop-i-preserved : goal.loop-i-preserved
-loop-i-preserved c =
-    let s = read _ c.requires in
-    let o = c.loop-i in
-    let e = same-length c.rule_at-rule.ensures in
-    (omega arith, omega (arith, e, o.invariant.1, c.rule_count-n.ensures, left-count s o.i (length s.decisions) c.loop-i-test.true))
+loop-i-preserved c = let s = lent c.args.rules in
+    let e = same-length c.rule_at.ensures in
+    omega (arith, left-count s c.loop-i.i (rows s) c.loop-i-test.true)
 
 pub returns : goal.returns
-returns c =
-    let s = read _ c.requires in
-    let o = c.loop-i in
-    omega (arith, o.invariant.1, left-none s o.i (length s.decisions) c.loop-i-test.false)
+returns c = let s = lent c.args.rules in
+    omega (arith, left-none s c.loop-i.i (rows s) c.loop-i-test.false)

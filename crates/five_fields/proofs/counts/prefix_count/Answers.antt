@@ -1,8 +1,8 @@
-use Rattle.five_fields.proofs.CountLaws.{ports-counted, ports-refused}
+use Rattle.five_fields.proofs.CountLaws.{ports-answered, ports-counted}
 use Rattle.five_fields.proofs.counts.prefix_count.Goals as goal
 
-pub returns-in-Prefixes : goal.returns-in-Prefixes
-returns-in-Prefixes c = ports-counted _ _ _ c.range_prefix_count.ensures _ c.in-Prefixes.is
+pub unwrap-requires : goal.unwrap-requires
+unwrap-requires c = ports-answered _ _ _ c.range_prefix_count.ensures c.requires
 
-pub returns-in-Refused : goal.returns-in-Refused
-returns-in-Refused c = absurd (ports-refused _ _ _ c.range_prefix_count.ensures c.requires c.in-Refused.is)
+pub returns : goal.returns
+returns c = ports-counted _ _ _ c.range_prefix_count.ensures c.unwrap.ensures

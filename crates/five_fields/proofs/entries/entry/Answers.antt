@@ -11,4 +11,4 @@ pub joined-value-requires : goal.joined-value-requires
 joined-value-requires c = fields_in _ (record { source = search rules; destination = search rules; source_port = search rules; destination_port = search rules; protocol = value-within c.args.rule.protocol _ c.requires.protocol c.protocol_value.ensures })
 
 pub returns : goal.returns
-returns c = entry-made _ _ _ _ _ _ _ c.address_care.ensures c.address_care-2.ensures c.protocol_care.ensures c.protocol_value.ensures c.joined-care.ensures c.joined-value.ensures
+returns c = entry-made _ _ _ _ _ _ _ c.address_care.ensures c.address_care-2.ensures c.protocol_care.ensures c.protocol_value.ensures (rw (c.from.ensures, c.from-2.ensures) at c.joined-care.ensures) (rw (c.from-3.ensures, c.from-4.ensures) at c.joined-value.ensures)

@@ -1,13 +1,9 @@
 use Rattle.five_fields.proofs.PutLaws.{Putting}
 use Rattle.five_fields.specs.Inner.{entries_inside}
 use Rattle.five_fields.specs.FiveFieldRule.{rule_of}
-use lib.ListN.{take, drop}
-use Prim.Native.Nat.{◌+◌, ◌-◌, ◌≤◌}
+use lib.ListN.{drop}
+use Prim.Native.Nat.{◌+◌}
 use Rattle.five_fields.proofs.entries.put_inside.Given as goal
 
 abbrev pub invariant-loop-j : goal.invariant-loop-j
-invariant-loop-j l = (l.j ≤ l.n)
-    × Putting l.at (entries_inside (rule_of l.rule) l.source_care l.source_value (take l.n l.cares) (take l.n l.values)) l.initial.care l.initial.value l.initial.decision (l.at + l.j) (entries_inside (rule_of l.rule) l.source_care l.source_value (drop l.j (take l.n l.cares)) (drop l.j (take l.n l.values))) l.care l.value l.decision
-
-abbrev pub decreases-loop-j : goal.decreases-loop-j
-decreases-loop-j l = l.n - l.j
+invariant-loop-j l = Putting l.at (entries_inside (rule_of l.rule) l.source_care l.source_value l.cares l.values) l.initial.care l.initial.value l.initial.decision (l.at + l.j) (entries_inside (rule_of l.rule) l.source_care l.source_value (drop l.j l.cares) (drop l.j l.values)) l.care l.value l.decision

@@ -1,8 +1,8 @@
-use Rattle.five_fields.proofs.CountLaws.{ports-put, ports-never}
+use Rattle.five_fields.proofs.CountLaws.{ports-written, ports-put}
 use Rattle.five_fields.proofs.expansions.put_ports.Goals as goal
 
-pub returns-in-Prefixes : goal.returns-in-Prefixes
-returns-in-Prefixes c = ports-put _ _ _ _ _ _ _ c.range_prefixes.ensures _ c.in-Prefixes.is
+pub unwrap-requires : goal.unwrap-requires
+unwrap-requires c = ports-written _ _ _ _ _ _ _ c.range_prefixes.ensures c.requires.0 c.requires.1 c.requires.2
 
-pub returns-in-Refused : goal.returns-in-Refused
-returns-in-Refused c = absurd (ports-never _ _ _ _ _ _ _ c.range_prefixes.ensures c.requires.0 c.requires.1 c.requires.2 c.in-Refused.is)
+pub returns : goal.returns
+returns c = ports-put _ _ _ _ _ _ _ c.range_prefixes.ensures _ c.unwrap.ensures

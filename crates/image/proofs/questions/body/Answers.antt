@@ -8,26 +8,21 @@ use Rattle.image.proofs.SeekLaws.{body-none, body-found, id-facts}
 use Rattle.image.proofs.questions.body.Goals as goal
 
 pub returns-in_default : goal.returns-in_default
-returns-in_default c = body-none _ _ _ c.body_refusal-v.ensures c.in_default.is
-
-pub find-p-requires : goal.find-p-requires
-find-p-requires c = let f = id-facts _ _ _ c.body_refusal-v.ensures c.in-Fine.is in
-    (f.head.least, f.head.most, f.sums)
+returns-in_default c = body-none _ _ _ c.in_default.ensures
 
 pub bounds-image-0 : goal.bounds-image-0
-bounds-image-0 c = omega (arith, (id-facts _ _ _ c.body_refusal-v.ensures c.in-Fine.is).head.least)
+bounds-image-0 c = omega (arith, (id-facts _ _ c.in-Ok.ensures.checked).head.least)
 
 pub overflow_mul-end : goal.overflow_mul-end
-overflow_mul-end c = omega (arith, layout-body _ _ c.layout.ensures c.find-p.result.count)
+overflow_mul-end c = omega (arith, layout-body _ _ c.layout.ensures c.in-Ok.p.count, c.in-Ok.ensures.stands)
 
 pub overflow_add-end : goal.overflow_add-end
-overflow_add-end c = omega (arith, layout-body _ _ c.layout.ensures c.find-p.result.count)
+overflow_add-end c = omega (arith, layout-body _ _ c.layout.ensures c.in-Ok.p.count, c.in-Ok.ensures.stands)
 
 pub slice_bounds-result-end-2 : goal.slice_bounds-result-end-2
-slice_bounds-result-end-2 c = omega (arith, layout-body _ _ c.layout.ensures c.find-p.result.count)
+slice_bounds-result-end-2 c = omega (arith, layout-body _ _ c.layout.ensures c.in-Ok.p.count, c.in-Ok.ensures.stands)
 
 pub returns : goal.returns
 returns c = let b = c.args.image.now in
-    let s = layout-body _ _ c.layout.ensures c.find-p.result.count in
-    ap (λ (k : ℕ). part k c.find-p.result.from b) (add-sub_cancel_left c.find-p.result.from _ ∙ s.0)
-    ∙ body-found b _ _ c.find-p.result c.body_refusal-v.ensures c.in-Fine.is c.find-p.ensures.0
+    let s = layout-body _ _ c.layout.ensures c.in-Ok.p.count in
+    ap (λ (k : ℕ). part k c.in-Ok.p.from b) (add-sub_cancel_left c.in-Ok.p.from _ ∙ s.0) ∙ body-found b _ c.in-Ok.p c.in-Ok.ensures

@@ -1,27 +1,25 @@
+use mathlib.Core.List.{[]}
 use mathlib.Core.Path.{sym}
 use native.Mathlib.Omega.{arith}
-use Rattle.rules.proofs.ReplyLaws.{refused-stop}
+use Rattle.rules.proofs.ReplyLaws.{stop-up}
 use Rattle.image_form.proofs.PartLaws.{entry-got}
 use Rattle.image.specs.Calls.{entry_reply}
-use Rattle.image.proofs.SeekLaws.{fine-facts}
-use Rattle.image.proofs.AskLaws.{entry-below, entry-above, entry-told}
+use Rattle.image.proofs.SeekLaws.{image-facts}
+use Rattle.image.proofs.AskLaws.{number-facts, entry-refused, entry-told}
 use Rattle.image.proofs.questions.entry.Goals as goal
 
-pub returns-in-Refused : goal.returns-in-Refused
+pub returns-in_err-check : goal.returns-in_err-check
 unfolding entry_reply
-returns-in-Refused c = sym (refused-stop _ _ _ c.check-v.ensures c.in-Refused.is)
+returns-in_err-check c = stop-up _ _ _ _ _ c.from_residual.ensures.1 c.in_err-check.ensures
 
-pub returns-then-k-lt1 : goal.returns-then-k-lt1
-returns-then-k-lt1 c = entry-below _ _ _ c.check-v.ensures c.in_default.is (omega arith)
-
-pub returns-then-k-byte_at : goal.returns-then-k-byte_at
-returns-then-k-byte_at c = entry-above _ _ _ c.check-v.ensures c.in_default.is _ (omega arith) c.byte_at.ensures.0 (omega arith)
+pub returns-in_err-check_number : goal.returns-in_err-check_number
+returns-in_err-check_number c =
+    entry-refused _ _ _ c.in_ok-check.ensures c.byte_at.ensures.0 _ _ c.from_residual-in_err-check_number.ensures.1 c.in_err-check_number.ensures
 
 pub overflow_cast-id : goal.overflow_cast-id
 overflow_cast-id c = omega (arith, c.entry_in-found.ensures.id)
 
 pub returns : goal.returns
-returns c = let v = c.check-v in
-    let fine = c.in_default.is in
-    entry-told _ _ _ v.ensures fine _ c.entry_in-found.result (omega arith) c.byte_at.ensures.0 (omega arith)
-    (entry-got _ _ _ c.entry_in-found.ensures (omega (arith, (fine-facts _ _ v.ensures fine).head.contents)))
+returns c =
+    entry-told _ _ _ c.in_ok-check.ensures c.byte_at.ensures.0 c.entry_in-found.result c.in_ok-check_number.ensures
+    (entry-got _ _ _ c.entry_in-found.ensures (omega (arith, number-facts c.args.k c.byte_at.result c.in_ok-check_number.ensures, (image-facts _ [] (sym c.in_ok-check.ensures)).head.contents)))

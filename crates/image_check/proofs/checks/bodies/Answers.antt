@@ -1,48 +1,44 @@
-use mathlib.Core.Path.{sym, ◌∙◌}
+use mathlib.Core.Path.{refl, sym, ◌∙◌}
 use native.Mathlib.Omega.{arith}
+use Rattle.rules.proofs.ReplyLaws.{stop-up, then_next}
 use Rattle.image_form.specs.Images.{format_in}
 use Rattle.image_form.proofs.FormatLaws.{layout-body}
 use Rattle.image_form.proofs.PartLaws.{entry-got}
-use Rattle.image_check.proofs.StepLaws.{lists-stop, lists-pass, lists-end, size_step, total-start, bodies-start}
+use Rattle.image_check.proofs.StepLaws.{lists-turn, lists-end, size_step, total-start, bodies-start}
 use Rattle.image_check.proofs.checks.bodies.Goals as goal
 
-pub loop-left-init : goal.loop-left-init
-loop-left-init c = (
-  omega arith,
-  omega arith,
-  total-start c.args.b.now _ c.byte_at-left.ensures.0 c.requires.4,
-  bodies-start c.args.b.now _ _ c.byte_at-width.ensures.0 c.byte_at-left.ensures.0,
+pub loop-k-init : goal.loop-k-init
+loop-k-init c = (
+  total-start c.args.b.now _ _ c.byte_at-lists.ensures.0 (omega arith) c.requires.4,
+  bodies-start c.args.b.now _ _ _ c.byte_at-width.ensures.0 c.byte_at-lists.ensures.0 (omega arith),
 )
 
-pub rules_at-v-requires : goal.rules_at-v-requires
-rules_at-v-requires c = let o = c.loop-left in
+pub rules_at-requires : goal.rules_at-requires
+rules_at-requires c = let o = c.loop-k in
+    let e = c.entry_in-count in
+    (omega (arith, o.invariant.0, size_step c.args.b.now c.byte_at-lists.result o.k (omega arith) e.result (entry-got _ _ _ e.ensures (omega arith)) (format_in c.args.b.now)), omega (arith, e.ensures.count), omega arith, omega arith)
+
+pub returns-in_err-rules_at : goal.returns-in_err-rules_at
+returns-in_err-rules_at c = let o = c.loop-k in
+    let e = c.entry_in-count in
+    stop-up _ _ _ _ _ c.from_residual.ensures.1 c.in_err-rules_at.ensures
+    ∙ sym (o.invariant.1 ∙ lists-turn c.args.b.now _ o.k (omega arith) e.result (entry-got _ _ _ e.ensures (omega arith)) _ _ refl _ _)
+
+pub overflow_mul-from-in-loop-k : goal.overflow_mul-from-in-loop-k
+overflow_mul-from-in-loop-k c = omega (arith, layout-body _ _ c.layout-rule.ensures c.entry_in-count.result.count, c.entry_in-count.ensures.count)
+
+pub overflow_add-from-in-loop-k : goal.overflow_add-from-in-loop-k
+overflow_add-from-in-loop-k c = omega (arith, layout-body _ _ c.layout-rule.ensures c.entry_in-count.result.count, c.entry_in-count.ensures.count)
+
+pub loop-k-preserved : goal.loop-k-preserved
+loop-k-preserved c = let o = c.loop-k in
+    let e = c.entry_in-count in
     let b = c.args.b.now in
-    let e = c.entry_in-count in
-    (omega (arith, o.invariant.2, size_step o.left o.at b e.result (entry-got _ _ _ e.ensures (omega arith)) (omega arith) (format_in b)), omega (arith, e.ensures.count), omega arith, omega arith)
-
-pub returns-in_default : goal.returns-in_default
-returns-in_default c = let o = c.loop-left in
-    let e = c.entry_in-count in
-    sym (o.invariant.3 ∙ lists-stop _ _ _ o.left o.at o.from _ e.result (entry-got _ _ _ e.ensures (omega arith)) _ (omega arith) c.rules_at-v.ensures c.in_default.is)
-
-pub overflow_mul-from-in-loop-left : goal.overflow_mul-from-in-loop-left
-overflow_mul-from-in-loop-left c = omega (arith, layout-body _ _ c.layout-rule.ensures c.entry_in-count.result.count, c.entry_in-count.ensures.count)
-
-pub overflow_add-from-in-loop-left : goal.overflow_add-from-in-loop-left
-overflow_add-from-in-loop-left c = omega (arith, layout-body _ _ c.layout-rule.ensures c.entry_in-count.result.count, c.entry_in-count.ensures.count)
-
-pub loop-left-preserved : goal.loop-left-preserved
-loop-left-preserved c = let o = c.loop-left in
-    let e = c.entry_in-count in
-    let b = c.args.b.now in
-    let is = entry-got _ _ _ e.ensures (omega arith) in
     let s = layout-body _ _ c.layout-rule.ensures e.result.count in (
-      omega arith,
-      omega arith,
-      omega (arith, o.invariant.2, size_step o.left o.at b e.result is (omega arith) (format_in b)),
-      o.invariant.3 ∙ lists-pass _ _ _ o.left o.at o.from _ e.result is _ _ (omega arith) c.rules_at-v.ensures c.in-Fine.is s.0,
+      omega (arith, s, o.invariant.0, size_step b c.byte_at-lists.result o.k (omega arith) e.result (entry-got _ _ _ e.ensures (omega arith)) (format_in b)),
+      o.invariant.1 ∙ lists-turn b _ o.k (omega arith) e.result (entry-got _ _ _ e.ensures (omega arith)) _ _ s.0 _ _ ∙ then_next _ _ (sym c.in_ok-rules_at.ensures),
     )
 
 pub returns : goal.returns
-returns c = let o = c.loop-left in
-    sym (o.invariant.3 ∙ lists-end _ _ _ o.left o.at o.from _ (omega arith))
+returns c = let o = c.loop-k in
+    sym (o.invariant.1 ∙ lists-end c.args.b.now _ o.k (omega arith) _ _ _)

@@ -1,36 +1,20 @@
-use Rattle.rules.proofs.SliceLaws.{told}
-use Rattle.image_form.specs.Formats.{rule_size}
-use Rattle.image_form.proofs.FormatLaws.{times-turn, layout-rule}
-use Rattle.image_form.proofs.PartLaws.{rule-got}
-use mathlib.Core.Path.{refl, ap, sym, ◌∙◌}
+use mathlib.Core.Path.{sym, ◌∙◌}
 use native.Mathlib.Omega.{arith}
-use Rattle.image_check.proofs.StepLaws.{rules-stop, rules-pass, rules-end, in-width}
-use Rattle.rules.specs.Checks.{rule_check}
+use Rattle.rules.proofs.ReplyLaws.{stop-up, then_next}
+use Rattle.image_form.proofs.FormatLaws.{layout-rule}
+use Rattle.image_check.proofs.StepLaws.{rules-turn, rules-end}
 use Rattle.image_check.proofs.checks.rules_at.Goals as goal
 
-pub loop-left-init : goal.loop-left-init
-loop-left-init c = (omega arith, omega arith, refl)
+pub returns-in_err-check_rule : goal.returns-in_err-check_rule
+returns-in_err-check_rule c = let o = c.loop-i in
+    stop-up _ _ _ _ _ c.from_residual.ensures.1 c.in_err-check_rule.ensures
+    ∙ sym (o.invariant ∙ rules-turn _ _ _ _ _ o.i _ _ (layout-rule _ _ c.layout-rule.ensures) c.requires.0 (omega arith) c.requires.2 c.requires.3 _ c.rule_in.ensures)
 
-pub returns-in_default : goal.returns-in_default
-returns-in_default c = let o = c.loop-left in
-    let a = c in
-    sym (o.invariant.2 ∙ rules-stop _ _ _ o.number o.left o.at _ _ (omega arith)
-    (c.check_rule-v.ensures ∙ in-width _ _ o.number _ (omega arith) (omega arith) ∙ ap (rule_check _ _ _) (told (rule-got _ _ _ _ c.rule_in.ensures (omega (arith, times-turn (rule_size a.args.format) o.left (omega arith)))))) c.in_default.is)
-
-pub overflow_add-at : goal.overflow_add-at
-overflow_add-at c = let o = c.loop-left in
-    omega (arith, layout-rule _ _ c.layout-rule.ensures, times-turn (rule_size c.args.format) o.left (omega arith))
-
-pub loop-left-preserved : goal.loop-left-preserved
-loop-left-preserved c = let o = c.loop-left in
-    let a = c in
-    let s = layout-rule _ _ c.layout-rule.ensures in (
-      omega (arith, times-turn (rule_size a.args.format) o.left (omega arith)),
-      omega arith,
-      o.invariant.2 ∙ rules-pass _ _ _ o.number o.left o.at _ _ _ (omega arith)
-          (c.check_rule-v.ensures ∙ in-width _ _ o.number _ (omega arith) (omega arith) ∙ ap (rule_check _ _ _) (told (rule-got _ _ _ _ c.rule_in.ensures (omega (arith, times-turn (rule_size a.args.format) o.left (omega arith)))))) c.in-Fine.is s,
-    )
+pub loop-i-preserved : goal.loop-i-preserved
+loop-i-preserved c = let o = c.loop-i in
+    o.invariant ∙ rules-turn _ _ _ _ _ o.i _ _ (layout-rule _ _ c.layout-rule.ensures) c.requires.0 (omega arith) c.requires.2 c.requires.3 _ c.rule_in.ensures
+    ∙ then_next _ _ (sym c.in_ok-check_rule.ensures)
 
 pub returns : goal.returns
-returns c = let o = c.loop-left in
-    sym (o.invariant.2 ∙ rules-end _ _ _ o.number o.left o.at _ (omega arith))
+returns c = let o = c.loop-i in
+    sym (o.invariant ∙ rules-end _ _ _ _ _ o.i _ (omega arith))

@@ -1,19 +1,18 @@
-use mathlib.Core.Path.{ap, sym, ◌∙◌}
 use native.Mathlib.Omega.{arith}
-use Rattle.rules.specs.Rule.{held}
 use Rattle.image_form.proofs.FormatLaws.{layout-rule}
-use Rattle.image_form.proofs.PartLaws.{rule-there, rule-zeros}
+use Rattle.image_form.proofs.NumberLaws.{length_part}
+use Rattle.image_form.proofs.PartLaws.{rule-made, rule-zeros}
+use mathlib.Core.Path.{ap, ◌∙◌}
+use lib.ListN.{length}
 use Rattle.image_form.proofs.parts.rule_in.Goals as goal
 
 pub rule_here-requires : goal.rule_here-requires
-rule_here-requires c = omega (arith, layout-rule _ _ c.layout-size.ensures)
+rule_here-requires c = let e = c.in-Some.ensures in
+    ap length e.1 ∙ length_part _ _ _ e.0 ∙ layout-rule _ _ c.layout.ensures
 
-pub returns-then-at-b : goal.returns-then-at-b
-returns-then-at-b c = c.rule_here.ensures
-    ∙ ap held (sym (rule-there _ _ _ (omega (arith, layout-rule _ _ c.layout-size.ensures))))
+pub returns-in-Some : goal.returns-in-Some
+returns-in-Some c = let e = c.in-Some.ensures in
+    rule-made _ _ _ _ _ _ (layout-rule _ _ c.layout.ensures) e.0 e.1 c.rule_here.ensures
 
-pub returns-else-at-b : goal.returns-else-at-b
-returns-else-at-b c = rule-zeros _ _ _ (omega (arith, layout-rule _ _ c.layout-size.ensures))
-
-pub returns-else-size-b : goal.returns-else-size-b
-returns-else-size-b c = rule-zeros _ _ _ (omega (arith, layout-rule _ _ c.layout-size.ensures))
+pub returns : goal.returns
+returns c = rule-zeros _ _ _ (omega (arith, layout-rule _ _ c.layout.ensures, c.in_default.ensures))

@@ -1,11 +1,9 @@
-use Rattle.plain_compare.proofs.AnswerLaws.{answer-hit, answer-miss, never-refused}
+use borrow.Author.Rules.{rules}
+use Rattle.plain_compare.proofs.AnswerLaws.{never-refused, answer-told}
 use Rattle.plain_compare.proofs.answers.answer_at.Goals as goal
 
-pub returns-in-Hit : goal.returns-in-Hit
-returns-in-Hit c = answer-hit _ _ _ _ _ c.requires.0 c.requires.1 c.wide.ensures _ c.lookup-looked.ensures _ c.in-Hit.is
+pub unwrap-hit-requires : goal.unwrap-hit-requires
+unwrap-hit-requires c = never-refused _ _ _ _ _ c.requires.0 c.requires.1 c.from.ensures _ c.lookup.ensures
 
-pub returns-in-Miss : goal.returns-in-Miss
-returns-in-Miss c = answer-miss _ _ _ _ _ c.requires.0 c.requires.1 c.wide.ensures _ c.lookup-looked.ensures c.in-Miss.is
-
-pub returns-in-Refused : goal.returns-in-Refused
-returns-in-Refused c = never-refused _ _ _ _ _ c.requires.0 c.requires.1 c.wide.ensures _ c.lookup-looked.ensures _ c.in-Refused.is
+pub returns : goal.returns
+returns c = answer-told _ _ _ _ _ c.requires.0 c.requires.1 c.from.ensures _ c.lookup.ensures _ _ c.unwrap-hit.ensures (search rules)

@@ -1,18 +1,16 @@
 use native.Mathlib.Omega.{arith}
-use Rattle.plain_compare.proofs.ListingLaws.{told-no, ends-elsewhere, told-by-new}
+use mathlib.Core.Path.{sym, ◌∙◌}
+use Rattle.words.proofs.Tests.{eqb_yes}
+use Rattle.plain_compare.proofs.ListingLaws.{told-by-new}
 use Rattle.plain_compare.proofs.listing.joins.Goals as goal
+use Rattle.plain_compare.proofs.listing.joins.Goals.{then-count-gt0, else-count-gt0, then-h-gt0, else-h-gt0, then-eq, else-eq}
 
-pub returns-then-count-eq0 : goal.returns-then-count-eq0
-returns-then-count-eq0 c = told-no (λ j. omega (arith, j.some, c.if-count-eq0.true))
-
-pub returns-then-h-eq0 : goal.returns-then-h-eq0
-returns-then-h-eq0 c = told-no (λ j. omega (arith, j.next, c.if-h-eq0.true))
-
-pub returns-then-not-same : goal.returns-then-not-same
-returns-then-not-same c = ends-elsewhere _ _ _ _ _ _ _ c.if-h-eq0.false c.same.ensures c.word_at.ensures c.wide.ensures c.if-not-same.true
-
-pub returns-then-old_answer-p : goal.returns-then-old_answer-p
-returns-then-old_answer-p c = told-no (λ j. c.if-old_answer-p.true j.olds)
-
-pub returns : goal.returns
-returns c = told-by-new _ _ _ _ _ _ _ c.if-h-eq0.false c.same.ensures c.word_at.ensures c.wide.ensures c.if-not-same.false c.if-count-eq0.false c.if-old_answer-p.false
+pub returns-then-old_answer-count : goal.returns-then-old_answer-count
+returns-then-old_answer-count c =
+    elim c.if-eq.branch [
+      | then-eq w ↦ elim c.if-h-gt0.branch [
+        | then-h-gt0 v ↦ told-by-new _ _ _ _ _ _ _ (omega arith) v.eq.ensures v.word_at.ensures v.from.ensures (sym v.value-is ∙ w.if-eq.true) (omega arith) (eqb_yes _ _ (sym w.value-is ∙ c.if-old_answer-count.true))
+        | else-h-gt0 v ↦ absurd (grind (arith, c.if-count-gt0.branch))
+      ]
+      | else-eq w ↦ absurd cc
+    ]

@@ -1,11 +1,7 @@
 use Rattle.rules.proofs.SliceLaws.{Kept}
-use Prim.Native.Nat.{◌≤◌}
 use Rattle.rules.specs.Slices.{rules_of}
 use Rattle.pruning.specs.Inner.{Passing}
 use Rattle.pruning.proofs.dropping.drop_all.Given as goal
 
 abbrev pub invariant-loop-k : goal.invariant-loop-k
-invariant-loop-k l = Passing l.width (rules_of l.initial.care l.initial.value l.initial.decision) l.count l.count l.care l.value l.decision l.left l.k × (l.k ≤ l.count) × Kept l.initial.care l.initial.value l.initial.decision l.care l.value l.decision
-
-abbrev pub decreases-loop-k : goal.decreases-loop-k
-decreases-loop-k l = l.k
+invariant-loop-k l = Passing l.width (rules_of l.initial.care l.initial.value l.initial.decision) l.count l.count l.care l.value l.decision l.left l.k × Kept l.initial.care l.initial.value l.initial.decision l.care l.value l.decision

@@ -6,7 +6,7 @@ use Rattle.rules.proofs.checks.pattern_fits.Goals as goal
 
 pub returns-then-below-2 : goal.returns-then-below-2
 unfolding pattern_fits
-returns-then-below-2 c = same-told _ _ c.same.ensures c.and.ensures ∙ and-on (sym c.below-then-below.ensures ∙ c.if-below-2.true) ∙ and-on (sym c.below.ensures ∙ c.if-below.true)
+returns-then-below-2 c = same-told _ _ c.eq.ensures c.bitand.ensures ∙ and-on (sym c.below-then-below.ensures ∙ c.if-below-2.true) ∙ and-on (sym c.below.ensures ∙ c.if-below.true)
 
 pub returns-else-below-2 : goal.returns-else-below-2
 unfolding pattern_fits

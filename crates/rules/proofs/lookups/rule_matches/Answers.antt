@@ -4,4 +4,4 @@ use Rattle.rules.proofs.lookups.rule_matches.Goals as goal
 
 pub returns : goal.returns
 unfolding matches
-returns c = same-told _ _ c.same.ensures c.and.ensures
+returns c = same-told _ _ c.eq.ensures c.bitand.ensures

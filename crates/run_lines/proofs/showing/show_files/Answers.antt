@@ -8,5 +8,5 @@ returns g c =
     record {
       olds = search rules;
       news = search rules;
-      shown = from_zero _ _ _ _ _ _ c.wide.ensures c.show_first-compared.ensures;
+      shown = from_zero _ _ _ _ _ _ c.from.ensures c.show_first-compared.ensures;
     }

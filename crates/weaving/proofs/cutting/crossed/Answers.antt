@@ -1,25 +1,15 @@
-use mathlib.Core.Path.{ap₂, ◌∙◌}
+use mathlib.Core.Path.{refl}
 use native.Mathlib.Omega.{arith}
 use borrow.Author.Rules.{rules}
-use Rattle.rules.proofs.SliceLaws.{told}
+use Rattle.std.proofs.lemmas.Iterator.{YieldsList-from_range}
+use Rattle.std.proofs.lemmas.Iterator.Search.{any_from_yields_List}
 use Rattle.rules.specs.Rules.{crosses}
-use Rattle.weaving.proofs.ChunkLaws.{rules-fit, looking-none, looking-more, looking-yes, looking-no}
+use Rattle.rules.specs.Slices.{rules_in, rule_at}
+use Rattle.weaving.proofs.ChunkLaws.{rules-fit, test-read, any-there}
 use Rattle.weaving.proofs.cutting.crossed.Goals as goal
 
-pub loop-i-init : goal.loop-i-init
-loop-i-init c = (search rules, search rules, looking-none _ _ _ _)
-
-pub returns-then-rule_crosses : goal.returns-then-rule_crosses
-returns-then-rule_crosses c = looking-yes _ _ _ _ _ _ c.loop-i-test.true (rules-fit _ _ _ _ c.requires.lent (omega (arith, c.requires.from_le_k.1)))
-    (c.rule_crosses.ensures ∙ ap₂ crosses (told c.rule_at-b.ensures) (told c.rule_at.ensures)) c.if-rule_crosses.true c.loop-i.invariant.2
-
-pub loop-i-preserved : goal.loop-i-preserved
-loop-i-preserved c = (
-  search rules,
-  search rules,
-  looking-more _ _ _ _ _ _ c.loop-i-test.true (rules-fit _ _ _ _ c.requires.lent (omega (arith, c.requires.from_le_k.1)))
-      (c.rule_crosses.ensures ∙ ap₂ crosses (told c.rule_at-b.ensures) (told c.rule_at.ensures)) c.if-rule_crosses.false c.loop-i.invariant.2,
-)
-
 pub returns : goal.returns
-returns c = looking-no _ _ _ _ _ (omega arith) c.loop-i.invariant.2
+returns c = let rs = rules_in c.args.rules in
+    let p = crosses (rule_at rs c.args.k) in
+    any-there p _ _ _ _ c.requires.from_le_k.0 (rules-fit _ _ _ _ c.requires.lent (omega (arith, c.requires.from_le_k.1)))
+    (any_from_yields_List (λ i. p (rule_at rs i)) _ _ _ c.any.ensures.ran (YieldsList-from_range _ _ _ refl refl) (λ x b q k. (search rules, search (rules, test-read crosses))))

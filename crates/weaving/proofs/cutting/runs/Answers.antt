@@ -1,17 +1,17 @@
-use mathlib.Core.Path.{refl}
-use borrow.Author.Rules.{rules}
+use Rattle.rules.proofs.CheckLaws.{room-exactly}
 use Rattle.weaving.proofs.CallLaws.{call-sound, runs-list, runs-seven, runs-given}
+use mathlib.Core.Path.{sym}
 use Rattle.weaving.proofs.cutting.runs.Goals as goal
 
-pub returns-in-Refused : goal.returns-in-Refused
-returns-in-Refused c = runs-list _ _ _ _ _ _ c.check_list-v.ensures _ c.in-Refused.is
+pub returns-in_err-check_list : goal.returns-in_err-check_list
+returns-in_err-check_list c = runs-list _ _ _ _ _ _ _ c.from_residual.ensures.1 c.in_err-check_list.ensures
 
-pub returns-then-sizes-decision : goal.returns-then-sizes-decision
-returns-then-sizes-decision c = runs-seven _ _ _ _ _ _ c.check_list-v.ensures _ c.in_default.is (search rules) refl
+pub returns-in_err-check_room : goal.returns-in_err-check_room
+returns-in_err-check_room c = runs-seven _ _ _ _ _ c.in_ok-check_list.ensures _ _ c.from_residual-in_err-check_room.ensures.1 c.in_err-check_room.ensures
 
 pub put_sizes-requires : goal.put_sizes-requires
-put_sizes-requires c = let s = call-sound _ _ _ _ _ c.check_list-v.ensures c.in_default.is in
-    record { lent = s.lent; decision_len_bound = (s.few, search rules) }
+put_sizes-requires c = let s = call-sound _ _ _ _ c.in_ok-check_list.ensures in
+    record { lent = s.lent; decision_len_bound = (s.few, (room-exactly _ _).0 (sym c.in_ok-check_room.ensures)) }
 
 pub returns : goal.returns
-returns c = runs-given _ _ _ _ _ _ c.check_list-v.ensures _ _ c.in_default.is (search rules) c.put_sizes.ensures
+returns c = runs-given _ _ _ _ _ c.in_ok-check_list.ensures _ _ c.in_ok-check_room.ensures c.put_sizes.ensures

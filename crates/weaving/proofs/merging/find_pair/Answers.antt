@@ -1,50 +1,46 @@
-use Rattle.rules.proofs.SliceLaws.{told}
-use mathlib.Core.Path.{◌≡◌, refl, sym, ap₂, ◌∙◌, subst}
-use mathlib.Core.Bool.{Bool}
-use Prim.Native.Nat.{◌<◌}
+use Rattle.std.specs.declared.ops.Range.{Range}
+use Rattle.rules.specs.Slices.{rules_in}
+use mathlib.Core.Path.{◌≡◌, refl, sym, ap, ◌∙◌, subst}
+use Prim.Native.Nat.{ℕ}
 use native.Mathlib.Omega.{arith}
-use borrow.Author.Rules.{rules}
-use Rattle.rules.specs.declared.Rule.{Rule as Held}
-use Rattle.rules.specs.Rule.{Rule, rule_of, held}
 use Rattle.rules.specs.Rules.{mergeable}
-use Rattle.weaving.specs.Inner.{NoRow}
-use Rattle.weaving.proofs.PairLaws.{row-start, row-stop, row_more, rows_none, rows_more, found_none}
+use Rattle.weaving.specs.Inner.{NoRow, Apart}
+use Rattle.weaving.proofs.ChunkLaws.{test-read}
+use Rattle.weaving.proofs.PairLaws.{row-start, row-stop, row_more, rows_more}
 use Rattle.weaving.proofs.merging.find_pair.Goals as goal
 
--- the test of two rules that were read is the test of the rules of the list
-read-test : {a b : Held} (x y : Rule) {t : Bool} → a ≡ held x → b ≡ held y → t ≡ mergeable (rule_of a) (rule_of b) → mergeable x y ≡ t
-read-test x y e f g = ap₂ mergeable (sym (told e)) (sym (told f)) ∙ sym g
-
-pub search-init : goal.search-init
-search-init c = (search rules, search rules, rows_none _ _ _, refl)
-
-pub untried-span-requires : goal.untried-span-requires
-untried-span-requires c = let h : c.args.from < c.args.to = omega arith in (search rules, c.requires.tried.some h)
-
 pub loop-j-init : goal.loop-j-init
-loop-j-init c = let u = c.untried-span.ensures in
-    (u.later, u.order, row-start _ _ _ _ _ _ _ _ c.search.invariant.0 c.requires.tried u, c.search.invariant.3)
-
-pub overflow_add-j : goal.overflow_add-j
-overflow_add-j c = omega (arith, c.untried-span.ensures.inside)
-
-pub loop-j-preserved : goal.loop-j-preserved
-loop-j-preserved c = (search rules, search rules, row_more _ _ _ c.loop-j.invariant.2 (read-test _ _ c.rule_at-a.ensures c.rule_at.ensures c.mergeable.ensures ∙ c.if-mergeable.false), c.loop-j.invariant.3)
-
-pub search-preserved : goal.search-preserved
-search-preserved c = let e : c.loop-j.j ≡ c.untried-span.result.stop = omega (arith, c.loop-j-test.false, c.loop-j.invariant.1) in
-    let u = row-stop _ _ _ _ _ _ _ _ c.search.invariant.0 c.requires.tried c.untried-span.ensures (subst (NoRow _ _) e c.loop-j.invariant.2) in
-    (search rules, search rules, rows_more _ _ _ _ c.search.invariant.2 u, c.loop-j.invariant.3)
-
-pub returns-after-search : goal.returns-after-search
-returns-after-search c = found_none _ _ _ _ _ c.search.invariant.2 c.search.invariant.3 (omega arith)
+loop-j-init c = let u = c.untried-j-items.ensures in
+    let e = c.into_iter-j-iterator.ensures.into_iter_gives in
+    record { end = refl; later = rw e u.later; order = rw e u.order; row = rw e (row-start _ _ _ _ _ _ _ _ c.loop-i.auto.i c.requires.tried u) }
 
 pub returns-then-mergeable : goal.returns-then-mergeable
-returns-then-mergeable c = record {
-  start = c.search.invariant.0;
-  later = c.loop-j.invariant.0;
-  inside = omega (arith, c.untried-span.ensures.inside, c.loop-j-test.true);
-  rows = c.search.invariant.2;
-  row = c.loop-j.invariant.2;
-  yes = read-test _ _ c.rule_at-a.ensures c.rule_at.ensures c.mergeable.ensures ∙ c.if-mergeable.true;
-}
+returns-then-mergeable c = let o = c.loop-j.invariant in
+    let s = c.in-Some.ensures.steps in
+    let e = o.end ∙ ap (λ (r : Range ℕ). r.end) c.into_iter-j-iterator.ensures.into_iter_gives in
+    record {
+      start = c.loop-i.auto.i;
+      later = omega (arith, s.1.1, o.later);
+      inside = omega (arith, s.1.0, s.1.1, e, c.untried-j-items.ensures.inside);
+      rows = c.loop-i.invariant;
+      row = subst (NoRow _ _) (sym s.1.1) o.row;
+      yes = sym (test-read mergeable _ _ c.rule_at-a.ensures c.rule_at.ensures c.mergeable.ensures) ∙ c.if-mergeable.true;
+    }
+
+pub loop-j-preserved : goal.loop-j-preserved
+loop-j-preserved c = let o = c.loop-j.invariant in
+    let s = c.in-Some.ensures.steps in
+    let rs = rules_in c.args.rules in
+    record {
+      end = s.0 ∙ o.end;
+      later = omega (arith, s.1.2, o.later);
+      order = omega (arith, s.0, s.1.0, s.1.2);
+      row = subst (NoRow rs c.loop-i.i) (sym s.1.2) (row_more _ _ _ o.row (subst (Apart rs c.loop-i.i) s.1.1 (sym (test-read mergeable _ _ c.rule_at-a.ensures c.rule_at.ensures c.mergeable.ensures) ∙ c.if-mergeable.false)));
+    }
+
+pub loop-i-preserved : goal.loop-i-preserved
+loop-i-preserved c = let o = c.loop-j.invariant in
+    let s = c.in-None.ensures.steps in
+    let e = o.end ∙ ap (λ (r : Range ℕ). r.end) c.into_iter-j-iterator.ensures.into_iter_gives in
+    let f : c.loop-j.j-iterator.start ≡ c.untried-j-items.result.end = omega (arith, s.1.0, o.order, e) in
+    rows_more _ _ _ _ c.loop-i.invariant (row-stop _ _ _ _ _ _ _ _ c.loop-i.auto.i c.requires.tried c.untried-j-items.ensures (subst (NoRow _ _) f o.row))

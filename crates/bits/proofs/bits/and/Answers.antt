@@ -1,6 +1,0 @@
-use native.Mathlib.Omega.{arith}
-use Rattle.words.proofs.WordLaws.{and-made}
-use Rattle.bits.proofs.bits.and.Goals as goal
-
-pub returns : goal.returns
-returns c = and-made _ _ (omega arith) (omega arith)

@@ -1,6 +1,0 @@
-use native.Mathlib.Omega.{arith}
-use Rattle.words.proofs.WordLaws.{flip-made}
-use Rattle.bits.proofs.bits.flip.Goals as goal
-
-pub returns : goal.returns
-returns c = flip-made _ (omega arith) (omega arith)

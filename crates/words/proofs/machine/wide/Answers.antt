@@ -1,6 +1,0 @@
-use Rattle.std.proofs.Common.{arith}
-use Rattle.words.proofs.WordLaws.{made}
-use Rattle.words.proofs.machine.wide.Goals as goal
-
-pub returns : goal.returns
-returns c = made _ 0 _ (omega arith) (omega arith)
