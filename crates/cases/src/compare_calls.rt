@@ -7,25 +7,24 @@ use crate::show;
 use crate::show::Answer;
 use crate::source::{Source, Unread};
 use compare::Compared;
-use compare_check::Default;
-use rules::Wire;
+use rules::{Refusal, Wire};
 
 fn needed_at(case: &mut Source, out: &mut String) -> Result<(), Unread> {
     let (width, l) = width_and_list(case)?;
     let position = case.named(b"position")?;
     case.end()?;
-    compare::needed_at(width, &l.care, &l.value, &l.decision, position).put(out)?;
+    compare::needed_at(width, l.rules(), position).put(out)?;
     Ok(())
 }
 
 // The argument `default`: a decision, or `none`, which is no number here.
-fn read_default(case: &mut Source) -> Result<Default, Unread> {
+fn read_default(case: &mut Source) -> Result<Option<u16>, Unread> {
     case.name(b"default")?;
     if case.is_next(b"none") {
         case.name(b"none")?;
-        return Ok(Default::Absent);
+        return Ok(None);
     }
-    Ok(Default::Decision(case.number()?))
+    Ok(Some(case.number()?))
 }
 
 // `start` and `into`, the last arguments of every comparison.
@@ -36,7 +35,15 @@ fn start_and_into(case: &mut Source) -> Result<(Wire, Runs), Unread> {
     Ok((Wire(start), into))
 }
 
-fn put_compared(out: &mut String, answer: Compared, into: &Runs) -> Result<(), Unread> {
+// The answer, behind the number of runs also where it is a refusal, and the runs.
+fn put_compared(
+    out: &mut String,
+    answer: Result<Compared, Refusal>,
+    into: &Runs,
+) -> Result<(), Unread> {
+    if answer.is_err() {
+        out.push_str("0 ")?;
+    }
     answer.put(out)?;
     out.push_str(" into ")?;
     show::runs(out, into)?;
@@ -50,12 +57,8 @@ fn compare(case: &mut Source, out: &mut String) -> Result<(), Unread> {
     let (start, mut into) = start_and_into(case)?;
     let answer = compare::compare(
         width,
-        &old.care,
-        &old.value,
-        &old.decision,
-        &new.care,
-        &new.value,
-        &new.decision,
+        old.rules(),
+        new.rules(),
         start,
         &mut into.first,
         &mut into.last,
@@ -74,13 +77,9 @@ fn compare_outcomes(case: &mut Source, out: &mut String) -> Result<(), Unread> {
     let (start, mut into) = start_and_into(case)?;
     let answer = compare::compare_outcomes(
         width,
-        &old.care,
-        &old.value,
-        &old.decision,
+        old.rules(),
         old_default,
-        &new.care,
-        &new.value,
-        &new.decision,
+        new.rules(),
         new_default,
         start,
         &mut into.first,

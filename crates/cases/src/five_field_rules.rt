@@ -1,9 +1,11 @@
 // Five-field rules, as a case hands them in.
 use crate::given::{MOST, field, numbers, read_fields, read_shorts, short};
 use crate::source::{Source, Unread};
+use five_fields::FiveFieldRules;
 
+// The ten slices of a list of five-field rules.
 #[derive(Drop)]
-pub struct FiveFieldRules {
+pub struct Columns {
     pub source: Vec<u32>,
     pub source_length: Vec<u32>,
     pub destination: Vec<u32>,
@@ -16,8 +18,26 @@ pub struct FiveFieldRules {
     pub decision: Vec<u16>,
 }
 
+impl Columns {
+    // The rules as they are lent.
+    pub fn rules(&self) -> FiveFieldRules<'_> {
+        FiveFieldRules {
+            source: self.source.as_slice(),
+            source_length: self.source_length.as_slice(),
+            destination: self.destination.as_slice(),
+            destination_length: self.destination_length.as_slice(),
+            source_low: self.source_low.as_slice(),
+            source_high: self.source_high.as_slice(),
+            destination_low: self.destination_low.as_slice(),
+            destination_high: self.destination_high.as_slice(),
+            protocol: self.protocol.as_slice(),
+            decision: self.decision.as_slice(),
+        }
+    }
+}
+
 // The ten slices one by one.
-fn by_slices(case: &mut Source) -> Result<FiveFieldRules, Unread> {
+fn by_slices(case: &mut Source) -> Result<Columns, Unread> {
     let source = read_fields(case, b"source")?;
     let source_length = read_fields(case, b"source_length")?;
     let destination = read_fields(case, b"destination")?;
@@ -28,7 +48,7 @@ fn by_slices(case: &mut Source) -> Result<FiveFieldRules, Unread> {
     let destination_high = read_fields(case, b"destination_high")?;
     let protocol = read_fields(case, b"protocol")?;
     let decision = read_shorts(case, b"decision")?;
-    Ok(FiveFieldRules {
+    Ok(Columns {
         source,
         source_length,
         destination,
@@ -43,14 +63,14 @@ fn by_slices(case: &mut Source) -> Result<FiveFieldRules, Unread> {
 }
 
 // Rules of ten numbers each in brackets.
-fn by_numbers(case: &mut Source) -> Result<FiveFieldRules, Unread> {
+fn by_numbers(case: &mut Source) -> Result<Columns, Unread> {
     let start = case.here();
     let all = numbers(case, 32, 10 * MOST)?;
     let (rows, rest) = all.as_chunks::<10>();
     if !rest.is_empty() {
         return Err(start);
     }
-    let mut rules = FiveFieldRules {
+    let mut rules = Columns {
         source: Vec::new(case.alloc),
         source_length: Vec::new(case.alloc),
         destination: Vec::new(case.alloc),
@@ -78,7 +98,7 @@ fn by_numbers(case: &mut Source) -> Result<FiveFieldRules, Unread> {
 }
 
 // The argument `rules`: rules of ten numbers, or the ten slices.
-pub fn read_rules(case: &mut Source) -> Result<FiveFieldRules, Unread> {
+pub fn read_rules(case: &mut Source) -> Result<Columns, Unread> {
     case.name(b"rules")?;
     if case.is_next(b"source") {
         by_slices(case)

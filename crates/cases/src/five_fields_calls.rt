@@ -2,49 +2,17 @@
 use crate::five_field_rules::read_rules;
 use crate::given::{field, numbers, read_list};
 use crate::show;
-use crate::show::{Answer, whole};
+use crate::show::Answer;
 use crate::source::{Source, Unread};
-use five_fields::Expanded;
-use five_numbers::{Built, Numbers};
-use std::alloc::AllocError;
+use five_numbers::Numbers;
 
 // The places of a header of five fields.
 const PLACES: u32 = 104;
 
-impl Answer for Expanded {
-    fn put(self, out: &mut String) -> Result<(), AllocError> {
-        match self {
-            Expanded::Entries(n) => write!(out, "{n}"),
-            Expanded::Refused(x) => x.put(out),
-        }
-    }
-}
-
-impl Answer for Built {
-    fn put(self, out: &mut String) -> Result<(), AllocError> {
-        match self {
-            Built::Header(h) => write!(out, "{}", whole(h.0)),
-            Built::Refused(x) => x.put(out),
-        }
-    }
-}
-
 fn expansion_count(case: &mut Source, out: &mut String) -> Result<(), Unread> {
     let r = read_rules(case)?;
     case.end()?;
-    let answer = five_fields::expansion_count(
-        &r.source,
-        &r.source_length,
-        &r.destination,
-        &r.destination_length,
-        &r.source_low,
-        &r.source_high,
-        &r.destination_low,
-        &r.destination_high,
-        &r.protocol,
-        &r.decision,
-    );
-    answer.put(out)?;
+    five_fields::expansion_count(r.rules()).put(out)?;
     Ok(())
 }
 
@@ -54,23 +22,14 @@ fn expand(case: &mut Source, out: &mut String) -> Result<(), Unread> {
     let mut into = read_list(case, b"into")?;
     case.end()?;
     let answer = five_fields::expand(
-        &r.source,
-        &r.source_length,
-        &r.destination,
-        &r.destination_length,
-        &r.source_low,
-        &r.source_high,
-        &r.destination_low,
-        &r.destination_high,
-        &r.protocol,
-        &r.decision,
+        r.rules(),
         &mut into.care,
         &mut into.value,
         &mut into.decision,
     );
     answer.put(out)?;
     out.push_str(" into ")?;
-    show::list(out, PLACES, &into)?;
+    show::list(out, PLACES, into.rules())?;
     Ok(())
 }
 

@@ -1,7 +1,7 @@
 // What a case hands to a call: slices of numbers, rules, and lists of rules.
 use crate::show::whole;
 use crate::source::{Source, Unread, number_of, word_below};
-use rules::Rule;
+use rules::{Rule, RuleList};
 use std::alloc::AllocFailed;
 use words::Word;
 
@@ -143,13 +143,13 @@ fn put_numbers(item: Item, out: &mut Vec<Word>) -> Result<(), AllocFailed<Word>>
         }
         Way::Up => {
             for k in 0..item.count {
-                out.push(words::plus(item.value, words::wide(k)))?;
+                out.push(words::plus(item.value, Word::from(k)))?;
             }
         }
         Way::Bytes => {
             let bytes = whole(item.value).to_le_bytes();
             for b in bytes.iter().take(item.count as usize) {
-                out.push(words::wide(u64::from(*b)))?;
+                out.push(Word::from(u64::from(*b)))?;
             }
         }
     }
@@ -272,8 +272,8 @@ fn pattern(word: &[u8]) -> Option<(Word, Word)> {
     if word.len() > 128 || !word.iter().all(|b| matches!(b, b'0' | b'1' | b'*')) {
         return None;
     }
-    let mut care = words::wide(0);
-    let mut value = words::wide(0);
+    let mut care = Word::from(0);
+    let mut value = Word::from(0);
     for b in word {
         care = words::pushed(care, u64::from(*b != b'*'));
         value = words::pushed(value, u64::from(*b == b'1'));
@@ -312,6 +312,17 @@ pub struct List {
     pub care: Vec<u64>,
     pub value: Vec<u64>,
     pub decision: Vec<u16>,
+}
+
+impl List {
+    // The list as it is lent.
+    pub fn rules(&self) -> RuleList<'_> {
+        RuleList {
+            care: self.care.as_slice(),
+            value: self.value.as_slice(),
+            decision: self.decision.as_slice(),
+        }
+    }
 }
 
 // The three slices one by one: `care`, `value` and `decision`.

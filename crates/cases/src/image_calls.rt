@@ -3,24 +3,13 @@ use crate::given::{read_bytes, read_list, read_shorts};
 use crate::show;
 use crate::show::Answer;
 use crate::source::{Source, Unread};
-use image::{Listed, NumberAnswer};
+use image::Listed;
+use rules::Refusal;
 use std::alloc::AllocError;
-
-impl Answer for NumberAnswer {
-    fn put(self, out: &mut String) -> Result<(), AllocError> {
-        match self {
-            NumberAnswer::Number(n) => write!(out, "{n}"),
-            NumberAnswer::Refused(x) => x.put(out),
-        }
-    }
-}
 
 impl Answer for Listed {
     fn put(self, out: &mut String) -> Result<(), AllocError> {
-        match self {
-            Listed::List { id, rules } => write!(out, "id {id} rules {rules}"),
-            Listed::Refused(x) => x.put(out),
-        }
+        write!(out, "id {} rules {}", self.id, self.rules)
     }
 }
 
@@ -91,7 +80,7 @@ fn tally(case: &mut Source, out: &mut String) -> Result<(), Unread> {
 // The width as an image says it, for patterns; 0 where it says none.
 fn width_of(image: &[u8]) -> u32 {
     match image::width(image) {
-        NumberAnswer::Number(n) if n <= 128 => n as u32,
+        Ok(n) if n <= 128 => n as u32,
         _ => 0,
     }
 }
@@ -110,7 +99,7 @@ fn read(case: &mut Source, out: &mut String) -> Result<(), Unread> {
     );
     answer.put(out)?;
     out.push_str(" into ")?;
-    show::list(out, width_of(&image), &into)?;
+    show::list(out, width_of(&image), into.rules())?;
     Ok(())
 }
 
@@ -123,16 +112,7 @@ fn write(case: &mut Source, out: &mut String) -> Result<(), Unread> {
     let counts = read_shorts(case, b"counts")?;
     let mut into = read_bytes(case, b"into")?;
     case.end()?;
-    let answer = image_writer::write(
-        format,
-        width,
-        &ids,
-        &counts,
-        &l.care,
-        &l.value,
-        &l.decision,
-        &mut into,
-    );
+    let answer = image_writer::write(format, width, &ids, &counts, l.rules(), &mut into);
     put_image(out, answer, &into)
 }
 
@@ -157,7 +137,7 @@ fn prune_image(case: &mut Source, out: &mut String) -> Result<(), Unread> {
 }
 
 // The answer of a call that makes an image, and the bytes that were lent for it.
-fn put_image(out: &mut String, answer: NumberAnswer, bytes: &[u8]) -> Result<(), Unread> {
+fn put_image(out: &mut String, answer: Result<usize, Refusal>, bytes: &[u8]) -> Result<(), Unread> {
     answer.put(out)?;
     out.push_str(" into ")?;
     show::numbers(out, bytes)?;

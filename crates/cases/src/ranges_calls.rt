@@ -3,17 +3,6 @@ use crate::given::read_shorts;
 use crate::show;
 use crate::show::Answer;
 use crate::source::{Source, Unread};
-use ranges::Covered;
-use std::alloc::AllocError;
-
-impl Answer for Covered {
-    fn put(self, out: &mut String) -> Result<(), AllocError> {
-        match self {
-            Covered::Prefixes(n) => write!(out, "{n}"),
-            Covered::Refused(x) => x.put(out),
-        }
-    }
-}
 
 // `bits`, `low` and `high`.
 fn read_range(case: &mut Source) -> Result<(u32, u32, u32), Unread> {

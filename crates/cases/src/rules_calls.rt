@@ -1,9 +1,9 @@
 // The calls on lists of rules and on rules: the crates `rules` and `pairs`, and the lookup of a swapped header.
 use crate::given::{List, MOST, numbers, one_rule, read_list, two_rules};
-use crate::show::Answer;
+use crate::show::{Answer, Shown};
 use crate::source::{Source, Unread};
 use crate::{show, swaps_calls};
-use rules::{Looked, Rule, Wire};
+use rules::{Hit, Refusal, Rule, RuleList, Wire};
 use words::Word;
 
 // `width` and `list`.
@@ -16,7 +16,7 @@ pub fn width_and_list(case: &mut Source) -> Result<(u32, List), Unread> {
 fn check_list(case: &mut Source, out: &mut String) -> Result<(), Unread> {
     let (width, l) = width_and_list(case)?;
     case.end()?;
-    rules::check_list(width, &l.care, &l.value, &l.decision).put(out)?;
+    rules::check_list(width, l.rules()).put(out)?;
     Ok(())
 }
 
@@ -24,7 +24,7 @@ fn check_list_as(case: &mut Source, out: &mut String) -> Result<(), Unread> {
     let (width, l) = width_and_list(case)?;
     let number = case.named(b"as")?;
     case.end()?;
-    rules::check_list_as(number, width, &l.care, &l.value, &l.decision).put(out)?;
+    rules::check_list_as(number, width, l.rules()).put(out)?;
     Ok(())
 }
 
@@ -39,7 +39,7 @@ fn check_rule(case: &mut Source, out: &mut String) -> Result<(), Unread> {
 }
 
 // `headers`: each of them is looked up in the list.
-fn look_up<F: Fn(u32, &List, Word) -> Looked>(
+fn look_up<F: Fn(u32, RuleList<'_>, Word) -> Result<Option<Hit>, Refusal>>(
     case: &mut Source,
     out: &mut String,
     looked: F,
@@ -54,27 +54,26 @@ fn look_up<F: Fn(u32, &List, Word) -> Looked>(
         if i != 0 {
             out.push_str(", ")?;
         }
-        looked(width, &list, *header).put(out)?;
+        looked(width, list.rules(), *header).put(out)?;
     }
     Ok(())
 }
 
 fn lookup(case: &mut Source, out: &mut String) -> Result<(), Unread> {
-    look_up(case, out, |width, l, header| {
-        rules::lookup(width, &l.care, &l.value, &l.decision, Wire(header))
+    look_up(case, out, |width, rules, header| {
+        rules::lookup(width, rules, Wire(header))
     })
 }
 
 fn lookup_number(case: &mut Source, out: &mut String) -> Result<(), Unread> {
-    look_up(case, out, |width, l, header| {
-        rules::lookup_number(width, &l.care, &l.value, &l.decision, header)
+    // A closure round the call alone: the check finds no contract of another crate's function that is passed by name.
+    look_up(case, out, |width, rules, header| {
+        rules::lookup_number(width, rules, header)
     })
 }
 
 fn lookup_swapped(case: &mut Source, out: &mut String) -> Result<(), Unread> {
-    look_up(case, out, |width, l, header| {
-        swaps_calls::looked(width, &l.care, &l.value, &l.decision, header)
-    })
+    look_up(case, out, swaps_calls::looked)
 }
 
 // `width`, and `rules`: two of them.
@@ -121,11 +120,7 @@ fn rule_at(case: &mut Source, out: &mut String) -> Result<(), Unread> {
     let l = read_list(case, b"list")?;
     let place = case.named(b"place")?;
     case.end()?;
-    show::rule(
-        out,
-        0,
-        rules::rule_at(&l.care, &l.value, &l.decision, place),
-    )?;
+    Shown::new(0, rules::rule_at(l.rules(), place)).put(out)?;
     Ok(())
 }
 
@@ -137,7 +132,7 @@ fn put_rule(case: &mut Source, out: &mut String) -> Result<(), Unread> {
     case.end()?;
     rules::put_rule(&mut l.care, &mut l.value, &mut l.decision, place, rule);
     out.push_str("list ")?;
-    show::list(out, 0, &l)?;
+    show::list(out, 0, l.rules())?;
     Ok(())
 }
 

@@ -1,9 +1,7 @@
 // Answers, in the words of docs/CASES.md.
-use crate::given::List;
 use crate::runs::Runs;
-use compare::{Compared, Ending, Needed};
-use pairs::{Holds, Measured};
-use rules::{Looked, Refusal, Rule, Verdict};
+use compare::Compared;
+use rules::{Hit, Refusal, Rule, RuleList, Wire};
 use std::alloc::AllocError;
 use std::fmt;
 use std::fmt::Display;
@@ -15,13 +13,6 @@ pub fn whole(x: Word) -> u128 {
     u128::from(x.high) << 64 | u128::from(x.low)
 }
 
-fn word_of(n: u128) -> Word {
-    Word {
-        low: (n % (1 << 64)) as u64,
-        high: (n >> 64) as u64,
-    }
-}
-
 // What a call answers.
 pub trait Answer {
     fn put(self, out: &mut String) -> Result<(), AllocError>;
@@ -29,31 +20,23 @@ pub trait Answer {
 
 impl Answer for Refusal {
     fn put(self, out: &mut String) -> Result<(), AllocError> {
-        write!(
-            out,
-            "refused {} at {} {}",
-            self.number, self.list, self.rule
-        )
+        let number = self.reason.number();
+        write!(out, "refused {number} at {} {}", self.list, self.rule)
     }
 }
 
-impl Answer for Verdict {
+impl<T: Answer> Answer for Result<T, Refusal> {
     fn put(self, out: &mut String) -> Result<(), AllocError> {
         match self {
-            Verdict::Fine => out.push_str("fine"),
-            Verdict::Refused(x) => x.put(out),
+            Ok(x) => x.put(out),
+            Err(x) => x.put(out),
         }
     }
 }
 
-// The decision of the rule that is hit, and the rule's number.
-impl Answer for Looked {
+impl Answer for () {
     fn put(self, out: &mut String) -> Result<(), AllocError> {
-        match self {
-            Looked::Hit(x) => write!(out, "{} rule {}", x.decision, x.number),
-            Looked::Miss => out.push_str("none"),
-            Looked::Refused(x) => x.put(out),
-        }
+        out.push_str("fine")
     }
 }
 
@@ -63,65 +46,68 @@ impl Answer for bool {
     }
 }
 
-impl Answer for Holds {
+impl Answer for u32 {
+    fn put(self, out: &mut String) -> Result<(), AllocError> {
+        write!(out, "{self}")
+    }
+}
+
+impl Answer for usize {
+    fn put(self, out: &mut String) -> Result<(), AllocError> {
+        write!(out, "{self}")
+    }
+}
+
+impl Answer for Wire {
+    fn put(self, out: &mut String) -> Result<(), AllocError> {
+        write!(out, "{}", whole(self.0))
+    }
+}
+
+// The decision of the rule that is hit, and the rule's number.
+impl Answer for Option<Hit> {
     fn put(self, out: &mut String) -> Result<(), AllocError> {
         match self {
-            Holds::Yes => true.put(out),
-            Holds::No => false.put(out),
-            Holds::Refused(x) => x.put(out),
+            Some(x) => write!(out, "{} rule {}", x.decision, x.number),
+            None => out.push_str("none"),
         }
     }
 }
 
-impl Answer for Measured {
+// The header that a rule is needed at.
+impl Answer for Option<Wire> {
     fn put(self, out: &mut String) -> Result<(), AllocError> {
         match self {
-            Measured::Places(n) => write!(out, "{n}"),
-            Measured::Refused(x) => x.put(out),
+            Some(h) => write!(out, "at {}", whole(h.0)),
+            None => out.push_str("nowhere"),
         }
     }
 }
 
 impl Answer for Compared {
     fn put(self, out: &mut String) -> Result<(), AllocError> {
-        write!(out, "{}", self.count)?;
-        match self.ending {
-            Ending::Finished => out.push_str(" finished"),
-            Ending::More(h) => write!(out, " more from {}", whole(h.0)),
-            Ending::Refused(x) => {
-                out.push_str(" ")?;
-                x.put(out)
-            }
-        }
-    }
-}
-
-// The header that a rule is needed at.
-impl Answer for Needed {
-    fn put(self, out: &mut String) -> Result<(), AllocError> {
-        match self {
-            Needed::At(h) => write!(out, "at {}", whole(h.0)),
-            Needed::Nowhere => out.push_str("nowhere"),
-            Needed::Refused(x) => x.put(out),
+        match self.next {
+            Some(h) => write!(out, "{} more from {}", self.count, whole(h.0)),
+            None => write!(out, "{} finished", self.count),
         }
     }
 }
 
 // A rule as it is shown: one that fits the width as its pattern, another by its two words, and its decision.
 #[derive(Clone, Copy, PartialEq)]
-struct Shown {
+pub struct Shown {
     width: u32,
-    care: u128,
-    value: u128,
+    care: Word,
+    value: Word,
     decision: u16,
 }
 
 impl Shown {
-    fn new(width: u32, r: Rule) -> Shown {
+    pub fn new(width: u32, r: Rule) -> Shown {
         Shown {
             width,
-            care: whole(r.care),
-            value: whole(r.value),
+            care: r.care,
+            value: r.value,
             decision: r.decision,
         }
     }
@@ -130,21 +116,30 @@ impl Shown {
 impl fmt::Display for Shown {
     fn fmt<W: fmt::Write>(&self, f: &mut fmt::Formatter<W>) -> fmt::Result {
         let undecided = Rule {
-            care: word_of(self.care),
-            value: word_of(self.value),
+            care: self.care,
+            value: self.value,
             decision: 0,
         };
-        match rules::check_rule(self.width, 1, 1, undecided) {
-            Verdict::Fine => {
-                let mut places = [0u8; 128];
-                let n = text::write_pattern(self.width, undecided, &mut places);
+        let mut places = [0u8; 128];
+        let pattern = match rules::check_rule(self.width, 1, 1, undecided) {
+            Ok(()) => text::write_pattern(self.width, undecided, &mut places),
+            Err(_) => None,
+        };
+        match pattern {
+            Some(n) => {
                 for place in places.iter().take(n) {
                     f.write_char(char::from(*place))?;
                 }
             }
-            Verdict::Refused(_) => write!(f, "{}/{}", self.care, self.value)?,
+            None => write!(f, "{}/{}", whole(self.care), whole(self.value))?,
         }
         write!(f, " {}", self.decision)
+    }
+}
+
+impl Answer for Shown {
+    fn put(self, out: &mut String) -> Result<(), AllocError> {
+        write!(out, "{self}")
     }
 }
 
@@ -198,29 +193,22 @@ pub fn numbers<T: PartialEq + Display>(out: &mut String, s: &[T]) -> Result<(), 
     out.push_str("]")
 }
 
-pub fn rule(out: &mut String, width: u32, r: Rule) -> Result<(), AllocError> {
-    write!(out, "{}", Shown::new(width, r))
-}
-
 // A list: its rules, or slice by slice where they differ in length.
-pub fn list(out: &mut String, width: u32, l: &List) -> Result<(), AllocError> {
-    let (care, value, decision) = (l.care.as_slice(), l.value.as_slice(), l.decision.as_slice());
-    if care.len() == value.len() && care.len() == decision.len() * 2 {
-        let rules = (0..decision.len()).map(|i| Shown::new(
-            width,
-            rules::rule_at(care, value, decision, i),
-        ));
+pub fn list(out: &mut String, width: u32, l: RuleList) -> Result<(), AllocError> {
+    let count = l.decision.len();
+    if l.care.len() == l.value.len() && l.care.len() == count * 2 {
+        let rules = (0..count).map(|i| Shown::new(width, rules::rule_at(l, i)));
         let rules: Vec<Shown> = rules.collect(*out.allocator())?;
         out.push_str("[")?;
         items(out, rules.as_slice(), ", ")?;
         out.push_str("]")
     } else {
         out.push_str("care ")?;
-        slice(out, care)?;
+        slice(out, l.care)?;
         out.push_str(" value ")?;
-        slice(out, value)?;
+        slice(out, l.value)?;
         out.push_str(" decision ")?;
-        numbers(out, decision)
+        numbers(out, l.decision)
     }
 }
 

@@ -1,6 +1,5 @@
 // The text of a case, read from left to right.
 use std::alloc::{AllocError, AllocFailed, Global};
-use text::Number;
 use words::Word;
 
 // Why a case cannot be read. The number says how many bytes of the case are left from where it cannot be read on.
@@ -49,12 +48,9 @@ pub fn without_spaces(s: &[u8]) -> &[u8] {
 // What a word stands for; `none` is 65,535, which stands for no match.
 fn meant(word: &[u8]) -> Option<Word> {
     if word == b"none".as_slice() {
-        return Some(words::wide(65535));
+        return Some(Word::from(65535));
     }
-    match text::read_number(word) {
-        Number::Value(x) => Some(x),
-        Number::Nothing => None,
-    }
+    text::read_number(word)
 }
 
 // The number that a word stands for, which has to be below 2^bits.

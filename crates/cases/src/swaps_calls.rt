@@ -2,11 +2,10 @@
 use crate::given::{bytes, one_rule};
 use crate::rules_calls::width_and_list;
 use crate::show;
-use crate::show::{Answer, whole};
+use crate::show::{Answer, Shown};
 use crate::source::{Source, Unread};
-use rules::{Looked, Wire};
-use std::alloc::AllocError;
-use swaps::{MovedRule, Swap, SwapAnswer, ToSwapped, ToWire};
+use rules::{Hit, Refusal, RuleList, Wire};
+use swaps::Swap;
 use words::Word;
 
 // An argument `swap`: its width, and its entries in brackets; those that are left out are 0.
@@ -34,61 +33,52 @@ fn still() -> Swap {
 }
 
 // A header moved by one swap and moved back by another.
-fn put_moved(out: &mut String, there: Swap, back: Swap, header: Word) -> Result<(), AllocError> {
-    match there.apply(Wire(header)) {
-        ToSwapped::Header(x) => match back.undo(x) {
-            ToWire::Header(y) => write!(out, "{}", whole(y.0)),
-            ToWire::Refused(y) => y.put(out),
-        },
-        ToSwapped::Refused(x) => x.put(out),
-    }
-}
-
-impl Answer for SwapAnswer {
-    fn put(self, out: &mut String) -> Result<(), AllocError> {
-        self.verdict.put(out)?;
-        show::swap(out, self.swap)
-    }
+fn moved(there: Swap, back: Swap, header: Word) -> Result<Wire, Refusal> {
+    back.undo(there.apply(Wire(header))?)
 }
 
 // What the list answers to the swapped header with this number.
-pub fn looked(width: u32, care: &[u64], value: &[u64], decision: &[u16], header: Word) -> Looked {
-    match still().apply(Wire(header)) {
-        ToSwapped::Header(x) => swaps::lookup_swapped(width, care, value, decision, x),
-        ToSwapped::Refused(x) => Looked::Refused(x),
-    }
+pub fn looked(width: u32, rules: RuleList, header: Word) -> Result<Option<Hit>, Refusal> {
+    swaps::lookup_swapped(width, rules, still().apply(Wire(header))?)
+}
+
+// What is shown beside a refusal.
+const NO_SWAP: Swap = Swap {
+    places: [0; 128],
+    width: 0,
+};
+
+fn put_swap(out: &mut String, answer: Result<Swap, Refusal>) -> Result<(), Unread> {
+    answer.map(|_| ()).put(out)?;
+    show::swap(out, answer.unwrap_or(NO_SWAP))?;
+    Ok(())
 }
 
 fn prefix_swap(case: &mut Source, out: &mut String) -> Result<(), Unread> {
     let (width, l) = width_and_list(case)?;
     case.end()?;
-    prefixes::prefix_swap(width, &l.care, &l.value, &l.decision).put(out)?;
-    Ok(())
+    put_swap(out, prefixes::prefix_swap(width, l.rules()))
 }
 
 fn invert(case: &mut Source, out: &mut String) -> Result<(), Unread> {
     let swap = read_swap(case)?;
     case.end()?;
-    swap.invert().put(out)?;
-    Ok(())
+    put_swap(out, swap.invert())
 }
 
 fn compose(case: &mut Source, out: &mut String) -> Result<(), Unread> {
     let swap = read_swap(case)?;
     let second = read_swap(case)?;
     case.end()?;
-    swap.compose(second).put(out)?;
-    Ok(())
+    put_swap(out, swap.compose(second))
 }
 
 fn apply_rule(case: &mut Source, out: &mut String) -> Result<(), Unread> {
     let swap = read_swap(case)?;
     let rule = one_rule(case, b"rule")?;
     case.end()?;
-    match swap.apply_rule(rule) {
-        MovedRule::Moved(moved) => show::rule(out, swap.width, moved)?,
-        MovedRule::Refused(x) => x.put(out)?,
-    }
+    let moved = swap.apply_rule(rule);
+    moved.map(|r| Shown::new(swap.width, r)).put(out)?;
     Ok(())
 }
 
@@ -98,7 +88,7 @@ fn apply(case: &mut Source, out: &mut String) -> Result<(), Unread> {
     let swap = read_swap(case)?;
     let header = case.header(b"header")?;
     case.end()?;
-    put_moved(out, swap, still(), header)?;
+    moved(swap, still(), header).put(out)?;
     Ok(())
 }
 
@@ -106,7 +96,7 @@ fn undo(case: &mut Source, out: &mut String) -> Result<(), Unread> {
     let swap = read_swap(case)?;
     let header = case.header(b"header")?;
     case.end()?;
-    put_moved(out, still(), swap, header)?;
+    moved(still(), swap, header).put(out)?;
     Ok(())
 }
 

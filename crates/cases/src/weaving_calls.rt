@@ -4,38 +4,21 @@ use crate::rules_calls::width_and_list;
 use crate::show;
 use crate::show::Answer;
 use crate::source::{Source, Unread};
-use pruning::Pruned;
 use std::alloc::AllocError;
-use weaving::{Counted, Woven};
 
-impl Answer for Counted {
+impl Answer for weaving::Tally {
     fn put(self, out: &mut String) -> Result<(), AllocError> {
-        match self {
-            Counted::Runs(n) => write!(out, "{n}"),
-            Counted::Refused(x) => x.put(out),
-        }
+        write!(
+            out,
+            "kept {} dropped {} merged {}",
+            self.kept, self.dropped, self.merged
+        )
     }
 }
 
-impl Answer for Woven {
+impl Answer for pruning::Tally {
     fn put(self, out: &mut String) -> Result<(), AllocError> {
-        match self {
-            Woven::Done(t) => write!(
-                out,
-                "kept {} dropped {} merged {}",
-                t.kept, t.dropped, t.merged
-            ),
-            Woven::Refused(x) => x.put(out),
-        }
-    }
-}
-
-impl Answer for Pruned {
-    fn put(self, out: &mut String) -> Result<(), AllocError> {
-        match self {
-            Pruned::Done(t) => write!(out, "kept {} dropped {}", t.kept, t.dropped),
-            Pruned::Refused(x) => x.put(out),
-        }
+        write!(out, "kept {} dropped {}", self.kept, self.dropped)
     }
 }
 
@@ -44,7 +27,7 @@ fn runs(case: &mut Source, out: &mut String) -> Result<(), Unread> {
     let (width, l) = width_and_list(case)?;
     let mut sizes = read_shorts(case, b"into")?;
     case.end()?;
-    weaving::runs(width, &l.care, &l.value, &l.decision, &mut sizes).put(out)?;
+    weaving::runs(width, l.rules(), &mut sizes).put(out)?;
     out.push_str(" into ")?;
     show::numbers(out, &sizes)?;
     Ok(())
@@ -57,16 +40,14 @@ fn weave(case: &mut Source, out: &mut String) -> Result<(), Unread> {
     case.end()?;
     let woven = weaving::weave(
         width,
-        &l.care,
-        &l.value,
-        &l.decision,
+        l.rules(),
         &mut into.care,
         &mut into.value,
         &mut into.decision,
     );
     woven.put(out)?;
     out.push_str(" into ")?;
-    show::list(out, width, &into)?;
+    show::list(out, width, into.rules())?;
     Ok(())
 }
 
@@ -78,9 +59,7 @@ fn prune(case: &mut Source, out: &mut String) -> Result<(), Unread> {
     case.end()?;
     let pruned = pruning::prune(
         width,
-        &l.care,
-        &l.value,
-        &l.decision,
+        l.rules(),
         &mut into.care,
         &mut into.value,
         &mut into.decision,
@@ -88,7 +67,7 @@ fn prune(case: &mut Source, out: &mut String) -> Result<(), Unread> {
     );
     pruned.put(out)?;
     out.push_str(" into ")?;
-    show::list(out, width, &into)?;
+    show::list(out, width, into.rules())?;
     out.push_str(" headers ")?;
     show::slice(out, &headers)?;
     Ok(())
