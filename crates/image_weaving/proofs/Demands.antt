@@ -23,7 +23,6 @@ use Rattle.rules.proofs.ReplyLaws.{then-second, one_value, bare-first}
 use Rattle.rules.proofs.SliceLaws.{rules-columns}
 use Rattle.rules.proofs.AnswerLaws.{decide-alike-within}
 use Rattle.weaving.specs.declared.Tally.{Tally}
-use Rattle.weaving.specs.declared.Woven.{Woven}
 use Rattle.weaving.specs.Runs.{join}
 use Rattle.weaving.specs.Weave.{weave, kept, dropped, merges}
 use Rattle.weaving.specs.Calls.{woven_reply}
@@ -34,7 +33,7 @@ use Rattle.image_form.specs.declared.Entry.{Entry}
 use Rattle.image_form.specs.Images.{Named, format_in, width_in, count_in, entries_of, lists_in, lists_of, bytes_of}
 use Rattle.image_check.specs.Checks.{image_check}
 use Rattle.image_check.proofs.BareLaws.{bare-image}
-use Rattle.image.specs.declared.NumberAnswer.{NumberAnswer}
+use Rattle.std.specs.Prelude.{is_some, Ok, Err}
 use Rattle.image.specs.Places.{place_in, place_of, list_with}
 use Rattle.image.specs.Calls.{id_check}
 use Rattle.image.proofs.PassedLaws.{list-facts}
@@ -68,13 +67,13 @@ abbrev is_named : (id : ℕ) → List Named → Bool
 is_named id [] = false
 is_named id (l ∷ ls) = eqb l.id id || is_named id ls
 
-place-named : (fmt id next : ℕ) (es : List Entry) (s : List ℕ) → (place_in fmt id next es).found ≡ is_named id (lists_in fmt es s)
+place-named : (fmt id next : ℕ) (es : List Entry) (s : List ℕ) → is_some (place_in fmt id next es) ≡ is_named id (lists_in fmt es s)
 unfolding place_in lists_in
 place-named fmt id next [] s = refl
 place-named fmt id next (e ∷ es) s =
     split (eqb e.id id) (λ y. simp y) (λ n. simp n (place-named fmt id (next + rule_size fmt * e.count) es (drop (rule_size fmt * e.count) s)))
 
-image-named : (b : List ℕ) (id : ℕ) → (place_of b id).found ≡ is_named id (lists_of b)
+image-named : (b : List ℕ) (id : ℕ) → is_some (place_of b id) ≡ is_named id (lists_of b)
 unfolding place_of lists_of
 image-named b id = place-named (format_in b) id (4 + 8 * count_in b) (entries_of b) (drop (4 + 8 * count_in b) b)
 
@@ -92,7 +91,7 @@ columns-pass b id f =
 
 -- ---- `weave_image` or `prune_image` answered with the number n, and left out' in the bytes that held out
 
-module _ (z : Squeeze) (bs out out' : List ℕ) (n : ℕ) (W : ImageSqueezed z bs out (NumberAnswer.Number n) out') where
+module _ (z : Squeeze) (bs out out' : List ℕ) (n : ℕ) (W : ImageSqueezed z bs out (Ok n) out') where
   said : squeeze_image_reply z bs out ≡ Gives (n ∷ [])
   said = sym W.answer
 
@@ -191,7 +190,7 @@ module _ (z : Squeeze) (bs out out' : List ℕ) (n : ℕ) (W : ImageSqueezed z b
 
 -- ---- `tally` counted
 
-module _ (bs : List ℕ) (id : ℕ) (t : Tally) (T : woven_reply (Woven.Done t) ≡ tally_reply bs id) where
+module _ (bs : List ℕ) (id : ℕ) (t : Tally) (T : woven_reply (Ok t) ≡ tally_reply bs id) where
   counts : Gives (t.kept ∷ t.dropped ∷ t.merged ∷ []) ≡ Gives (kept (width_in bs) (list_with bs id) ∷ dropped (list_with bs id) ∷ merges (width_in bs) (list_with bs id) ∷ [])
   unfolding tally_reply
   counts = sym (then-second (id_check bs id) _ _ (sym T))
@@ -217,11 +216,11 @@ module _ (bs : List ℕ) (id : ℕ) (t : Tally) (T : woven_reply (Woven.Done t) 
       omega (arith, keeps, weave-keeps-some (width_in bs) (list_with bs id) (list-facts bs id (id-image bs id f)).valid (found_some bs id f))
 
   -- The entries kept are those that the woven image's list with that id has.
-  pub tally-of-woven : (out out' : List ℕ) (n : ℕ) → ImageWoven bs out (NumberAnswer.Number n) out' → AreBytes bs → t.kept ≡ length (list_with (take n out') id)
+  pub tally-of-woven : (out out' : List ℕ) (n : ℕ) → ImageWoven bs out (Ok n) out' → AreBytes bs → t.kept ≡ length (list_with (take n out') id)
   tally-of-woven out out' n W b = keeps ∙ ap length (sym (squeezed-image-list Squeeze.Weave bs out out' n W b id))
 
 -- ---- refused
 
 -- A refused `weave_image` or `prune_image` leaves the lent bytes as they were.
-pub refused-leaves-image : (z : Squeeze) (bs out out' : List ℕ) (x : Refusal) → ImageSqueezed z bs out (NumberAnswer.Refused x) out' → out' ≡ out
+pub refused-leaves-image : (z : Squeeze) (bs out out' : List ℕ) (x : Refusal) → ImageSqueezed z bs out (Err x) out' → out' ≡ out
 refused-leaves-image z bs out out' x W = rw (sym W.answer) at W.bytes

@@ -2,7 +2,6 @@
 pub mod OneLaws
 pub mod SqueezedLaws
 pub mod NextLaws
-pub mod LoopLaws
 pub mod WriteLaws
 pub mod Unique
 pub mod Demands

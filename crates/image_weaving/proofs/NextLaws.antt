@@ -5,18 +5,18 @@ use Prim.Native.Nat.{ℕ, ◌+◌, ◌-◌, ◌*◌, ◌≤◌, ◌<◌}
 use native.Mathlib.Omega.{arith}
 use native.Mathlib.Numerals.{add-one}
 use borrow.Author.Rules.{part_to_end}
+use borrow.Author.Tests.{le-leb}
 use lib.ListN.{length, take, drop, set, length-drop}
 use lib.Seq.{length-take-le, take-length, take-append-le, drop-append-le, take-append-add, take-suc-set}
 use Rattle.rules.specs.declared.Refusal.{Refusal}
-use Rattle.rules.specs.declared.Verdict.{Verdict}
+use Rattle.std.specs.Prelude.{Result, Ok, IsOk}
 use Rattle.rules.specs.Rule.{Rule}
 use Rattle.rules.specs.Slices.{rules_of, care_of, value_of, decision_of, cares_of, values_of, decisions_of, Lent}
 use Rattle.rules.specs.Replies.{Gives, passed}
-use Rattle.rules.proofs.ReplyLaws.{then_next, gives-refuses, bare-first}
+use Rattle.rules.proofs.ReplyLaws.{then_next, need-yes, bare-first}
 use Rattle.rules.proofs.SliceLaws.{rules-append, rules-columns, rules-length}
 use Rattle.weaving.specs.declared.Tally.{Tally}
-use Rattle.weaving.specs.declared.Woven.{Woven}
-use Rattle.weaving.specs.Calls.{woven_reply}
+use Rattle.weaving.specs.Calls.{tally_values, woven_reply}
 use Rattle.image_form.specs.declared.Entry.{Entry}
 use Rattle.image_form.specs.Images.{Named, named, entry_in, format_in, width_in, count_in, lists_of}
 use Rattle.image_form.specs.Parts.{entry_from}
@@ -25,7 +25,7 @@ use Rattle.image_check.specs.Checks.{image_check}
 use Rattle.image.specs.Places.{list_with}
 use Rattle.image.specs.Calls.{id_check, read_reply}
 use Rattle.image.proofs.SeekLaws.{image-facts}
-use Rattle.image.proofs.AskLaws.{entry-told}
+use Rattle.image.proofs.AskLaws.{number_check, entry-told}
 use Rattle.image.proofs.BackLaws.{AreBytes, length-lists_of}
 use Rattle.image.proofs.Theorems.{rules_named, list-named}
 use Rattle.image_writer.specs.Writing.{sum_of, lists_from, given}
@@ -37,6 +37,7 @@ use Rattle.image_weaving.specs.declared.Squeeze.{Squeeze}
 use Rattle.image_weaving.specs.Squeezing.{squeezed, squeezed_lists}
 use Rattle.image_weaving.specs.Parts.{HoldsRules, lost, squeeze_counts, RoomFor, ListSqueezed, RoomForAll, ListsSqueezed}
 use Rattle.image.proofs.ReadLaws.{bare-id, take-room}
+use Rattle.image_weaving.proofs.OneLaws.{given-ok}
 use Rattle.image_weaving.proofs.SqueezedLaws.{squeezed-never-longer, squeezed-more, squeezed-fewer, rules-split, rules-at, carried-rules}
 
 -- ---- an accepted image
@@ -57,9 +58,11 @@ module _ (b : List ℕ) (h : AreBytes b) (f : image_check b ≡ passed) where
     place-id =
         let x : Entry = entry_from (4 + 8 * k) b in
         let same : k ≡ k + 1 - 1 = omega arith in
+        let numbered : passed ≡ number_check (k + 1) (count_in b) =
+        sym (then_next _ _ (need-yes _ 15 0 0 (le-leb 1 (k + 1) (omega arith))) ∙ need-yes _ 15 0 0 (le-leb (k + 1) (count_in b) (omega arith))) in
         let at : x ≡ entry_in (drop (4 + 8 * (k + 1 - 1)) b) = entry-there (4 + 8 * k) b within ∙ ap (λ (i : ℕ). entry_in (drop (4 + 8 * i) b)) same in
         let told : Gives (x.id ∷ x.count ∷ []) ≡ Gives ((list_at (lists_of b) k).id ∷ length (list_at (lists_of b) k).rules ∷ []) =
-        entry-told b (k + 1) Verdict.Fine (sym f) refl (count_in b) x (omega arith) refl (omega arith) at ∙ entry_gives b k f below in
+        entry-told b (k + 1) (count_in b) (sym f) refl x numbered at ∙ entry_gives b k f below in
         cc
 
     module _ (id : ℕ) (e : id ≡ (entry_from (4 + 8 * k) b).id) where
@@ -75,6 +78,11 @@ module _ (b : List ℕ) (h : AreBytes b) (f : image_check b ≡ passed) where
           bare-first (id_check b id) _ (bare-id b id) _
           (read-gives b k f below id (e ∙ place-id) (cares_of rs) (values_of rs) (decisions_of rs)
           (lent-passes (cares_of rs) (values_of rs) (decisions_of rs) (columns-lent rs)) (omega (arith, length-column decision_of rs)))
+
+-- before the first list, nothing is squeezed
+pub none-squeezed : (z : Squeeze) (b ids ns cs vs ds : List ℕ) → ListsSqueezed z b 0 0 ids ns cs vs ds
+unfolding sum_of lists_from squeezed_lists
+none-squeezed z b ids ns cs vs ds = record { fits = omega arith; sums = refl; lists = refl }
 
 -- ---- one list more behind others
 
@@ -168,15 +176,15 @@ module _ (z : Squeeze) (b : List ℕ) (k from : ℕ) (ids ns cs vs ds : List ℕ
           room = λ f. omega (arith, R.decisions, d, next-room, ap length next-list);
         }
 
-    module _ (r : Woven) (oc ov od : List ℕ) (W : ListSqueezed z b id r oc ov od) where
+    module _ (r : Result Tally Refusal) (oc ov od : List ℕ) (W : ListSqueezed z b id r oc ov od) where
       said : woven_reply r ≡ squeeze_counts z (width_in b) (list_with b id)
       said = W.reply ∙ then_next _ _ (place-passes b R.bytes R.accepted k below id e)
 
       -- it is not refused
-      pub next-not-refused : {x : Refusal} → r ≡ Woven.Refused x → ⊥
-      next-not-refused p = gives-refuses (sym said ∙ ap woven_reply p)
+      pub next-answers : IsOk r
+      next-answers = given-ok tally_values r said
 
-      module _ (t : Tally) (p : r ≡ Woven.Done t) where
+      module _ (t : Tally) (p : r ≡ Ok t) where
         abbrev left : List Rule
         left = squeezed z (width_in b) (list_at (lists_of b) k).rules
 

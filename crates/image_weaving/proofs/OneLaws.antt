@@ -1,5 +1,5 @@
 -- One list of an image, squeezed into slices that have room for it.
-use mathlib.Core.Path.{◌≡◌, refl, sym, ap, ◌∙◌}
+use mathlib.Core.Path.{◌≡◌, refl, sym, ap, ◌∙◌, subst}
 use mathlib.Core.List.{List, [], ◌∷◌, ◌++◌}
 use Prim.Native.Nat.{ℕ, ◌*◌}
 use native.Mathlib.Omega.{arith}
@@ -9,16 +9,16 @@ use lib.Seq.{length-take-le, take-append-le}
 use Rattle.rules.specs.declared.Refusal.{Refusal}
 use Rattle.rules.specs.Rule.{Rule}
 use Rattle.rules.specs.Slices.{rules_of, care_of, value_of, decision_of, cares_of, values_of, decisions_of, padded}
-use Rattle.rules.specs.Replies.{Reply, Gives, passed, refusal_reply, unless_refused}
-use Rattle.rules.proofs.ReplyLaws.{then_next, then-stop, need-yes, gives-refuses, two-values}
+use Rattle.rules.specs.Replies.{Reply, Gives, passed, refusal_reply, reply, unless_refused}
+use Rattle.rules.proofs.ReplyLaws.{then_next, stop-up, need-yes, gives-refuses, two-values}
 use Rattle.rules.proofs.PaddedLaws.{cares-front, values-front, decisions-front}
 use Rattle.rules.proofs.CheckLaws.{list-sound, sound-list, lengths-yes, room-yes}
-use Rattle.weaving.specs.declared.Woven.{Woven}
-use Rattle.weaving.specs.Calls.{woven_reply, weave_reply, WeaveDone}
-use Rattle.pruning.specs.declared.Tally.{Tally}
-use Rattle.pruning.specs.declared.Pruned.{Pruned}
+use Rattle.std.specs.Prelude.{Result, Ok, Err, IsOk, IsErrAnd}
+use Rattle.weaving.specs.declared.Tally.{Tally}
+use Rattle.weaving.specs.Calls.{tally_values, woven_reply, weave_reply, WeaveDone}
+use Rattle.pruning.specs.declared.Tally.{Tally as PruneTally}
 use Rattle.pruning.specs.Prune.{dropped}
-use Rattle.pruning.specs.Calls.{pruned_reply, headers_check, results_check, prune_reply, PruneDone}
+use Rattle.pruning.specs.Calls.{tally_values as pruned_values, pruned_reply, headers_check, results_check, prune_reply, PruneDone}
 use Rattle.image_form.specs.Images.{width_in}
 use Rattle.image.specs.Places.{list_with}
 use Rattle.image.specs.Calls.{id_check}
@@ -28,6 +28,11 @@ use Rattle.image_writer.proofs.CarryLaws.{length-column, length-words}
 use Rattle.image_weaving.specs.declared.Squeeze.{Squeeze}
 use Rattle.image_weaving.specs.Squeezing.{squeezed}
 use Rattle.image_weaving.specs.Parts.{HoldsRules, squeeze_counts, Ready, RulesSqueezed, RoomFor, ListSqueezed}
+
+-- what gives something is not refused
+pub given-ok : {A : Type 0} (values : A → List ℕ) (r : Result A Refusal) {ns : List ℕ} → reply values r ≡ Gives ns → IsOk r
+given-ok values (Ok x) e = refl
+given-ok values (Err x) e = absurd (gives-refuses (sym e))
 
 -- ---- what a call leaves in its result slices
 
@@ -58,22 +63,26 @@ longer-holds rs c v d x y z h =
 
 module _ (w : ℕ) (cs vs ds oc ov od : List ℕ) (R : Ready w cs vs ds oc ov od) where
   -- woven
-  module _ (oc' ov' od' : List ℕ) (r : Woven) (D : WeaveDone w cs vs ds oc ov od oc' ov' od' r) where
+  module _ (oc' ov' od' : List ℕ) (r : Result Tally Refusal) (D : WeaveDone w cs vs ds oc ov od oc' ov' od' r) where
     weave-given : weave_reply w cs vs ds oc ov od ≡ squeeze_counts Squeeze.Weave w (rules_of cs vs ds)
     unfolding weave_reply
     weave-given =
         then_next _ _ (sound-list w 1 cs vs ds R.sound)
         ∙ then_next _ _ (lengths-yes oc ov od (sym R.lent.values) (sym R.lent.decisions)) ∙ then_next _ _ (room-yes _ _ R.room)
 
-    pub rules-woven : RulesSqueezed Squeeze.Weave w (rules_of cs vs ds) r oc' ov' od'
-    rules-woven =
+    -- it is not refused
+    pub weave-answers : IsOk r
+    weave-answers = given-ok tally_values r (D.reply ∙ weave-given)
+
+    pub rules-woven : (t : Tally) → r ≡ Ok t → RulesSqueezed Squeeze.Weave w (rules_of cs vs ds) t oc' ov' od'
+    rules-woven t q =
         record {
-          reply = D.reply ∙ weave-given;
+          counts = sym (ap woven_reply q) ∙ D.reply ∙ weave-given;
           held = left-holds _ _ _ weave-given (length cs) (length vs) (length ds) oc ov od oc' ov' od' D.cares D.values D.decisions;
         }
 
   -- pruned, into as many places as it has rules
-  module _ (hs oc' ov' od' hs' : List ℕ) (p : Pruned)
+  module _ (hs oc' ov' od' hs' : List ℕ) (p : Result PruneTally Refusal)
       (D : PruneDone w cs vs ds (take (length ds * 2) oc) (take (length ds * 2) ov) (take (length ds) od) hs oc' ov' od' hs' p)
       (headers : length hs ≡ length ds * 2) where
     abbrev tc : List ℕ
@@ -101,23 +110,23 @@ module _ (w : ℕ) (cs vs ds oc ov od : List ℕ) (R : Ready w cs vs ds oc ov od
     prune-holds = left-holds _ _ _ prune-given (length cs) (length vs) (length ds) tc tv td oc' ov' od' D.cares D.values D.decisions
 
     -- it is not refused
-    pub prune-not-refused : {e : Refusal} → p ≡ Pruned.Refused e → ⊥
-    prune-not-refused q = gives-refuses (sym prune-given ∙ sym D.reply ∙ ap pruned_reply q)
+    pub prune-answers : IsOk p
+    prune-answers = given-ok pruned_values p (D.reply ∙ prune-given)
 
     -- its counts, and no merges; what stands behind those places is anything
-    pub rules-pruned : (x y z : List ℕ) (t : Tally) → p ≡ Pruned.Done t
-        → RulesSqueezed Squeeze.Prune w (rules_of cs vs ds) (Woven.Done (record { kept = t.kept; dropped = t.dropped; merged = 0 })) (oc' ++ x) (ov' ++ y) (od' ++ z)
+    pub rules-pruned : (x y z : List ℕ) (t : PruneTally) → p ≡ Ok t
+        → RulesSqueezed Squeeze.Prune w (rules_of cs vs ds) (record { kept = t.kept; dropped = t.dropped; merged = 0 }) (oc' ++ x) (ov' ++ y) (od' ++ z)
     rules-pruned x y z t q =
         let v = two-values (sym (ap pruned_reply q) ∙ D.reply ∙ prune-given) in
-        record { reply = (λ j. Gives (v.0 j ∷ v.1 j ∷ 0 ∷ [])); held = longer-holds _ oc' ov' od' x y z prune-holds }
+        record { counts = (λ j. Gives (v.0 j ∷ v.1 j ∷ 0 ∷ [])); held = longer-holds _ oc' ov' od' x y z prune-holds }
 
 -- ---- the list with an id
 
 -- it cannot be read
-pub list-refused : (z : Squeeze) (b : List ℕ) (id : ℕ) (x : Refusal) (oc ov od : List ℕ) → id_check b id ≡ refusal_reply x
-    → ListSqueezed z b id (Woven.Refused x) oc ov od
-list-refused z b id x oc ov od e =
-    record { reply = sym (then-stop (id_check b id) _ x e); held = λ t f. absurd (gives-refuses (sym (ap woven_reply f))) }
+pub list-refused : (z : Squeeze) (b : List ℕ) (id : ℕ) (r : Result Tally Refusal) (x : Refusal) (oc ov od : List ℕ) → IsErrAnd r (λ y. y ≡ x) → id_check b id ≡ refusal_reply x
+    → ListSqueezed z b id r oc ov od
+list-refused z b id r x oc ov od up e =
+    record { reply = stop-up tally_values r _ _ x up (sym e); held = λ t f. absurd (subst (λ (y : Result Tally Refusal). IsErrAnd y (λ y. y ≡ x)) f up) }
 
 -- it was read
 module _ (b : List ℕ) (id n : ℕ) (c v d : List ℕ) (p : id_check b id ≡ passed) (h : Held n (list_with b id) c v d) (w : ℕ) (e : w ≡ width_in b) where
@@ -133,11 +142,11 @@ module _ (b : List ℕ) (id n : ℕ) (c v d : List ℕ) (p : id_check b id ≡ p
       })
 
   -- and squeezed
-  pub list-squeezed : (z : Squeeze) (oc' ov' od' : List ℕ) (r : Woven)
-      → RulesSqueezed z w (rules_of (take (n * 2) c) (take (n * 2) v) (take n d)) r oc' ov' od' → ListSqueezed z b id r oc' ov' od'
-  list-squeezed z oc' ov' od' r S =
-      let T : RulesSqueezed z (width_in b) (list_with b id) r oc' ov' od' = rw (e, held-rules n (list_with b id) c v d h) at S in
-      record { reply = T.reply ∙ sym (then_next _ _ p); held = λ t g. T.held }
+  pub list-squeezed : (z : Squeeze) (oc' ov' od' : List ℕ) (t : Tally)
+      → RulesSqueezed z w (rules_of (take (n * 2) c) (take (n * 2) v) (take n d)) t oc' ov' od' → ListSqueezed z b id (Ok t) oc' ov' od'
+  list-squeezed z oc' ov' od' t S =
+      let T : RulesSqueezed z (width_in b) (list_with b id) t oc' ov' od' = rw (e, held-rules n (list_with b id) c v d h) at S in
+      record { reply = T.counts ∙ sym (then_next _ _ p); held = λ u g. T.held }
 
 -- slices of 1,024 places, two numbers to each of the first two, have room for any list
 pub room-for-any : (b : List ℕ) (id : ℕ) (c v d : List ℕ) → length c ≡ 2048 → length v ≡ 2048 → length d ≡ 1024 → RoomFor b id c v d

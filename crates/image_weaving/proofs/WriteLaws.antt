@@ -7,16 +7,15 @@ use lib.ListN.{length, get_or, take}
 use lib.Seq.{length-take-le, take_all}
 use borrow.Author.Tests.{le-leb}
 use Rattle.rules.specs.declared.Refusal.{Refusal}
-use Rattle.rules.specs.declared.Verdict.{Verdict}
+use Rattle.std.specs.Prelude.{Result, IsErrAnd}
 use Rattle.rules.specs.Rule.{Rule}
 use Rattle.rules.specs.Slices.{rules_of, Lent, cares_of, values_of, decisions_of, filled}
-use Rattle.rules.specs.Replies.{Reply, Gives, passed, ◌then◌, refusal_reply, verdict_reply, unless_refused}
+use Rattle.rules.specs.Replies.{Reply, Gives, passed, ◌then◌, refusal_reply, unless_refused}
 use Rattle.rules.specs.Checks.{room_check}
-use Rattle.rules.proofs.ReplyLaws.{then_next, then-stop, need-yes}
+use Rattle.rules.proofs.ReplyLaws.{then_next, then-stop, stop-up, same-refused, need-yes}
 use Rattle.rules.proofs.SliceLaws.{rules-length}
 use Rattle.image_form.specs.Images.{Named, format_in, width_in, count_in, lists_of, bytes_of}
 use Rattle.image_check.specs.Checks.{lists_check, image_check}
-use Rattle.image.specs.declared.NumberAnswer.{NumberAnswer}
 use Rattle.image.proofs.BackLaws.{AreBytes, length-lists_of}
 use Rattle.image.proofs.SeekLaws.{image-facts}
 use Rattle.image_writer.specs.Writing.{sum_of, given, image_length, names_check, shape_check, write_check, write_reply, Written}
@@ -27,43 +26,26 @@ use Rattle.image_writer.proofs.GivenLaws.{Shape, shape-passes}
 use Rattle.image_writer.proofs.WriteLaws.{write-facts, length-image}
 use Rattle.image_weaving.specs.declared.Squeeze.{Squeeze}
 use Rattle.image_weaving.specs.Squeezing.{squeezed_lists, squeezed_bytes, squeeze_image_reply, ImageSqueezed}
-use Rattle.image_weaving.specs.Parts.{RoomForAll, ListsSqueezed, SqueezedUpTo}
+use Rattle.image_weaving.specs.Parts.{RoomForAll, ListsSqueezed}
 use Rattle.image_weaving.proofs.SqueezedLaws.{length-squeezed, squeezed-carried}
 use Rattle.image_weaving.proofs.NextLaws.{accepted-carried, accepted-few}
-use Rattle.image_weaving.proofs.LoopLaws.{up-squeezed}
-
--- numbers that are bytes one by one are bytes
-pub all-bytes : (b : List ℕ) → ((i : ℕ) → get_or b i 0 < 256) → AreBytes b
-all-bytes [] f = tt
-all-bytes (x ∷ b) f = (f 0, all-bytes b (λ i. f (suc i)))
 
 pub some_bytes : (b : List ℕ) → image_check b ≡ passed → 4 ≤ length b
 some_bytes b f = (image-facts b [] f).head.least
 
 -- the image is refused
-pub image-refused : (z : Squeeze) (b out : List ℕ) (v : Verdict) {x : Refusal} → verdict_reply v ≡ image_check b → v ≡ Verdict.Refused x → ImageSqueezed z b out (NumberAnswer.Refused x) out
+pub image-refused : (z : Squeeze) (b out : List ℕ) (r : Result ℕ Refusal) (x : Refusal) → IsErrAnd r (λ y. y ≡ x) → refusal_reply x ≡ image_check b → ImageSqueezed z b out r out
 unfolding squeeze_image_reply
-image-refused z b out v {x} p q =
-    let e : squeeze_image_reply z b out ≡ refusal_reply x = then-stop (image_check b) _ x (sym p ∙ ap verdict_reply q) in
-    record { answer = sym e; bytes = ap (λ (u : Reply). unless_refused u (filled (squeezed_bytes z b) out) out) (sym e) }
-
--- slices as long as they are made are ready
-pub made-ready : (b ids ns cs vs ds : List ℕ) → image_check b ≡ passed → ((i : ℕ) → get_or b i 0 < 256) → length ids ≡ 16 → length ns ≡ 16
-    → length cs ≡ 7280 → length vs ≡ 7280 → length ds ≡ 3640 → RoomForAll b ids ns cs vs ds
-made-ready b ids ns cs vs ds f h i n c v d =
-    record { accepted = f; bytes = all-bytes b h; ids = i; counts = n; cares = c; values = v; decisions = d }
+image-refused z b out r x up p =
+    record { answer = stop-up _ r _ _ x up p; bytes = same-refused (squeeze_image_reply z b out) x _ out (then-stop (image_check b) _ x (sym p)) }
 
 -- all lists are squeezed
-module _ (z : Squeeze) (b : List ℕ) (r : NumberAnswer) (ids ns cs vs ds : List ℕ) (U : SqueezedUpTo z b (count_in b) r ids ns cs vs ds × RoomForAll b ids ns cs vs ds) (n : ℕ) (e : r ≡ NumberAnswer.Number n) where
+module _ (z : Squeeze) (b : List ℕ) (n : ℕ) (ids ns cs vs ds : List ℕ) (U : ListsSqueezed z b (count_in b) n ids ns cs vs ds × RoomForAll b ids ns cs vs ds) where
   ready : RoomForAll b ids ns cs vs ds
   ready = U.1
 
   done : ListsSqueezed z b (count_in b) n ids ns cs vs ds
-  done = up-squeezed z b (count_in b) r ids ns cs vs ds U.0 n e
-
-  -- how many of the places are taken
-  pub end_fits : n ≤ 3640
-  end_fits = done.fits
+  done = U.0
 
   module _ (k : ℕ) (same : k ≡ count_in b) where
     pub room-ids : k ≤ length ids
@@ -78,22 +60,22 @@ module _ (z : Squeeze) (b : List ℕ) (r : NumberAnswer) (ids ns cs vs ds : List
     pub long-counts : k ≡ length (take k ns)
     long-counts = sym (length-take-le k ns room-counts)
 
-  pub room-cares : n * 2 ≤ length cs
+  room-cares : n * 2 ≤ length cs
   room-cares = omega (arith, ready.cares, done.fits)
 
-  pub room-values : n * 2 ≤ length vs
+  room-values : n * 2 ≤ length vs
   room-values = omega (arith, ready.values, done.fits)
 
-  pub room-decisions : n ≤ length ds
+  room-decisions : n ≤ length ds
   room-decisions = omega (arith, ready.decisions, done.fits)
 
-  pub long-cares : n * 2 ≡ length (take (n * 2) cs)
+  long-cares : n * 2 ≡ length (take (n * 2) cs)
   long-cares = sym (length-take-le (n * 2) cs room-cares)
 
-  pub long-values : n * 2 ≡ length (take (n * 2) vs)
+  long-values : n * 2 ≡ length (take (n * 2) vs)
   long-values = sym (length-take-le (n * 2) vs room-values)
 
-  pub long-decisions : n ≡ length (take n ds)
+  long-decisions : n ≡ length (take n ds)
   long-decisions = sym (length-take-le n ds room-decisions)
 
   abbrev lists : List Named
@@ -183,7 +165,7 @@ module _ (z : Squeeze) (b : List ℕ) (r : NumberAnswer) (ids ns cs vs ds : List
       ∙ ap (λ (k : ℕ). room_check k (length out) then Gives (k ∷ [])) size_is
       ∙ sym (then_next (image_check b) _ ready.accepted)
 
-  written : (out out' : List ℕ) (o : NumberAnswer) → Written (format_in b) (width_in b) is ms c v d out o out' → ImageSqueezed z b out o out'
+  written : (out out' : List ℕ) (o : Result ℕ Refusal) → Written (format_in b) (width_in b) is ms c v d out o out' → ImageSqueezed z b out o out'
   unfolding squeezed_bytes
   written out out' o W =
       record {
@@ -191,6 +173,6 @@ module _ (z : Squeeze) (b : List ℕ) (r : NumberAnswer) (ids ns cs vs ds : List
         bytes = W.bytes ∙ (λ j. unless_refused (reply-same out j) (filled (bytes_of (format_in b) (width_in b) (given-lists j)) out) out);
       }
 
-  pub all-written : (out out' : List ℕ) (o : NumberAnswer) (w k : ℕ) → w ≡ width_in b → k ≡ count_in b
+  pub all-written : (out out' : List ℕ) (o : Result ℕ Refusal) (w k : ℕ) → w ≡ width_in b → k ≡ count_in b
       → Written (format_in b) w (take k ids) (take k ns) c v d out o out' → ImageSqueezed z b out o out'
   all-written out out' o w k q s W = written out out' o (rw (q, s) at W)

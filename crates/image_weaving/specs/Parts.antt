@@ -1,18 +1,18 @@
 -- What only the contracts inside the library cite: a list squeezed into lent slices, and the lists squeezed one after the other.
-use Rattle.std.specs.Prelude.{◌≡◌, ℕ, ◌*◌, ◌≤◌, ◌<◌, List, [], ◌∷◌, length, take}
+use Rattle.std.specs.Prelude.{◌≡◌, ℕ, ◌*◌, ◌≤◌, ◌<◌, List, [], ◌∷◌, length, take, Result, Ok}
 use Rattle.rules.specs.Rule.{Rule}
 use Rattle.rules.specs.Lists.{All}
 use Rattle.rules.specs.Slices.{cares_of, values_of, decisions_of, Lent}
 use Rattle.rules.specs.Replies.{Reply, Gives, passed, ◌then◌}
 use Rattle.rules.specs.Checks.{Sound}
 use Rattle.weaving.specs.declared.Tally.{Tally}
-use Rattle.weaving.specs.declared.Woven.{Woven}
+use Rattle.rules.specs.declared.Refusal.{Refusal}
+use Rattle.rules.specs.declared.RuleList.{RuleList}
 use Rattle.weaving.specs.Weave.{dropped, merges}
-use Rattle.weaving.specs.Calls.{woven_reply}
+use Rattle.weaving.specs.Calls.{tally_values, woven_reply}
 use Rattle.pruning.specs.Prune.{dropped as pruned_away}
 use Rattle.image_form.specs.Images.{width_in, lists_of}
 use Rattle.image_check.specs.Checks.{image_check}
-use Rattle.image.specs.declared.NumberAnswer.{NumberAnswer}
 use Rattle.image.specs.Places.{list_with}
 use Rattle.image.specs.Calls.{id_check}
 use Rattle.image_writer.specs.Writing.{sum_of, given}
@@ -42,9 +42,13 @@ pub record Ready (w : ℕ) (cs vs ds ocs ovs ods : List ℕ) : Type 0 where
   pub lent : Lent ocs ovs ods
   pub room : length ds ≤ length ods
 
+-- The same of a list as it is lent.
+abbrev pub ReadyIn : ℕ → RuleList → (ocs ovs ods : List ℕ) → Type 0
+ReadyIn w x ocs ovs ods = Ready w x.care.now x.value.now x.decision.now ocs ovs ods
+
 -- What squeezing a list of these rules answers, and that the slices hold the squeezed list afterwards.
-pub record RulesSqueezed (z : Squeeze) (w : ℕ) (rs : List Rule) (r : Woven) (cs vs ds : List ℕ) : Type 0 where
-  pub reply : woven_reply r ≡ squeeze_counts z w rs
+pub record RulesSqueezed (z : Squeeze) (w : ℕ) (rs : List Rule) (t : Tally) (cs vs ds : List ℕ) : Type 0 where
+  pub counts : Gives (tally_values t) ≡ squeeze_counts z w rs
   pub held : HoldsRules (squeezed z w rs) cs vs ds
 
 -- Slices that belong together and have room for the list with that id.
@@ -53,9 +57,9 @@ pub record RoomFor (bs : List ℕ) (id : ℕ) (cs vs ds : List ℕ) : Type 0 whe
   pub room : image_check bs ≡ passed → length (list_with bs id) ≤ length ds
 
 -- What squeezing that list answers, and what the slices hold afterwards where it is not refused: the squeezed list.
-pub record ListSqueezed (z : Squeeze) (bs : List ℕ) (id : ℕ) (r : Woven) (cs vs ds : List ℕ) : Type 0 where
+pub record ListSqueezed (z : Squeeze) (bs : List ℕ) (id : ℕ) (r : Result Tally Refusal) (cs vs ds : List ℕ) : Type 0 where
   pub reply : woven_reply r ≡ (id_check bs id then squeeze_counts z (width_in bs) (list_with bs id))
-  pub held : (t : Tally) → r ≡ Woven.Done t → HoldsRules (squeezed z (width_in bs) (list_with bs id)) cs vs ds
+  pub held : (t : Tally) → r ≡ Ok t → HoldsRules (squeezed z (width_in bs) (list_with bs id)) cs vs ds
 
 -- ---- list after list
 
@@ -75,8 +79,3 @@ pub record ListsSqueezed (z : Squeeze) (bs : List ℕ) (k end : ℕ) (ids ns cs 
   pub sums : sum_of (take k ns) ≡ end
   pub lists : given (take k ids) (take k ns) (take (end * 2) cs) (take (end * 2) vs) (take end ds)
       ≡ squeezed_lists z (width_in bs) (take k (lists_of bs))
-
--- They are, and the answer says where their rules end. It is no refusal.
-abbrev pub SqueezedUpTo : Squeeze → (bs : List ℕ) → (k : ℕ) → NumberAnswer → (ids ns cs vs ds : List ℕ) → Type 0
-SqueezedUpTo z bs k (NumberAnswer.Number end) ids ns cs vs ds = ListsSqueezed z bs k end ids ns cs vs ds
-SqueezedUpTo z bs k (NumberAnswer.Refused x) ids ns cs vs ds = ⊥

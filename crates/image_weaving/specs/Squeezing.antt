@@ -1,16 +1,15 @@
 -- What squeezing the lists of an image replies, by weaving or by pruning, and what the lent bytes hold afterwards (01, Weaving; Image;
 -- Refusal numbers; request 12).
-use Rattle.std.specs.Prelude.{◌≡◌, ℕ, List, [], ◌∷◌, length}
+use Rattle.std.specs.Prelude.{◌≡◌, ℕ, List, [], ◌∷◌, length, Result}
 use Rattle.rules.specs.Rule.{Rule}
 use Rattle.rules.specs.Slices.{filled}
-use Rattle.rules.specs.Replies.{Reply, Gives, ◌then◌, unless_refused}
+use Rattle.rules.specs.declared.Refusal.{Refusal}
+use Rattle.rules.specs.Replies.{Reply, Gives, ◌then◌, unless_refused, number_reply}
 use Rattle.rules.specs.Checks.{room_check}
 use Rattle.weaving.specs.Weave.{weave}
 use Rattle.pruning.specs.Prune.{prune}
 use Rattle.image_form.specs.Images.{Named, named, format_in, width_in, lists_of, bytes_of}
 use Rattle.image_check.specs.Checks.{image_check}
-use Rattle.image.specs.declared.NumberAnswer.{NumberAnswer}
-use Rattle.image.specs.Replies.{number_reply}
 use Rattle.image_weaving.specs.declared.Squeeze.{Squeeze}
 
 -- A list squeezed: woven (01, Weaving), or pruned (request 12).
@@ -35,6 +34,6 @@ squeeze_image_reply z bs out =
     then Gives (length (squeezed_bytes z bs) ∷ [])
 
 -- The answer, and the lent bytes afterwards: the squeezed image from the first byte on, and later bytes as they were.
-pub record ImageSqueezed (z : Squeeze) (bs out : List ℕ) (r : NumberAnswer) (out' : List ℕ) : Type 0 where
+pub record ImageSqueezed (z : Squeeze) (bs out : List ℕ) (r : Result ℕ Refusal) (out' : List ℕ) : Type 0 where
   pub answer : number_reply r ≡ squeeze_image_reply z bs out
   pub bytes : out' ≡ unless_refused (squeeze_image_reply z bs out) (filled (squeezed_bytes z bs) out) out

@@ -1,9 +1,9 @@
 -- The two ways to squeeze an image, weaving and pruning, each by its name; and what weaving one list counts (01, Weaving; request 12).
-use Rattle.std.specs.Prelude.{ℕ, List, [], ◌∷◌}
+use Rattle.std.specs.Prelude.{ℕ, List, [], ◌∷◌, Result}
+use Rattle.rules.specs.declared.Refusal.{Refusal}
 use Rattle.rules.specs.Replies.{Reply, Gives, ◌then◌}
 use Rattle.weaving.specs.Weave.{kept, dropped, merges}
 use Rattle.image_form.specs.Images.{Named, width_in}
-use Rattle.image.specs.declared.NumberAnswer.{NumberAnswer}
 use Rattle.image.specs.Places.{list_with}
 use Rattle.image.specs.Calls.{id_check}
 use Rattle.image_weaving.specs.declared.Squeeze.{Squeeze}
@@ -24,7 +24,7 @@ abbrev pub weave_image_reply : (bs out : List ℕ) → Reply
 weave_image_reply = squeeze_image_reply Squeeze.Weave
 
 -- What `weave_image` promises.
-abbrev pub ImageWoven : (bs out : List ℕ) → NumberAnswer → (out' : List ℕ) → Type 0
+abbrev pub ImageWoven : (bs out : List ℕ) → Result ℕ Refusal → (out' : List ℕ) → Type 0
 ImageWoven = ImageSqueezed Squeeze.Weave
 
 -- What weaving the list with an id counts: the image's refusals and 15; else entries kept, rules dropped and merges made.
@@ -48,5 +48,5 @@ abbrev pub prune_image_reply : (bs out : List ℕ) → Reply
 prune_image_reply = squeeze_image_reply Squeeze.Prune
 
 -- What `prune_image` promises.
-abbrev pub ImagePruned : (bs out : List ℕ) → NumberAnswer → (out' : List ℕ) → Type 0
+abbrev pub ImagePruned : (bs out : List ℕ) → Result ℕ Refusal → (out' : List ℕ) → Type 0
 ImagePruned = ImageSqueezed Squeeze.Prune

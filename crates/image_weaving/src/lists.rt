@@ -1,88 +1,64 @@
 // One list of an image, squeezed into slices that are lent, and what weaving it counts.
 ghost use Rattle.std.specs.Prelude.{◌≡◌};
-ghost use Rattle.rules.specs.Slices.{rules_of};
+ghost use Rattle.rules.specs.Slices.{rules_in};
 ghost use Rattle.weaving.specs.Calls.{woven_reply};
 ghost use Rattle.image_weaving.specs.Weaving.{tally_reply};
-ghost use Rattle.image_weaving.specs.Parts.{Ready, RulesSqueezed, RoomFor, ListSqueezed};
+ghost use Rattle.image_weaving.specs.Parts.{ReadyIn, RulesSqueezed, RoomFor, ListSqueezed};
 ghost use Rattle.image_weaving.specs.declared.Squeeze.{Squeeze as Way};
 
 use crate::Squeeze;
-use image::{NumberAnswer, read};
+use image::read;
 use image_form::byte_at;
-use pruning::{Pruned, prune};
-use weaving::{Tally, Woven, weave};
+use pruning::prune;
+use rules::{Refusal, RuleList};
+use weaving::{Tally, weave};
 
 // Prunes a list into the first places of the three slices, as many as it has rules. Nothing is merged.
 fn prune_rules(
     width: u32,
-    care: &[u64],
-    value: &[u64],
-    decision: &[u16],
-    out_care: &mut [u64],
-    out_value: &mut [u64],
-    out_decision: &mut [u16],
-) -> Woven
-    requires { Ready width care.now value.now decision.now out_care.old out_value.old out_decision.old }
-    ensures { RulesSqueezed Way.Prune width (rules_of care.now value.now decision.now) result
-        out_care.new out_value.new out_decision.new }
+    rules: RuleList,
+    care: &mut [u64],
+    value: &mut [u64],
+    decision: &mut [u16],
+) -> Tally
+    requires { ReadyIn width rules care.old value.old decision.old }
+    ensures { RulesSqueezed Way.Prune width (rules_in rules.entry) result
+        care.new value.new decision.new }
 {
-    let mut header = [0u64; 2048];
-    let n = decision.len();
-    let halves = n * 2;
-    let p = prune(
+    let mut header = [0; 2048];
+    let n = rules.decision.len();
+    let t = prune(
         width,
-        care,
-        value,
-        decision,
-        &mut out_care[..halves],
-        &mut out_value[..halves],
-        &mut out_decision[..n],
-        &mut header[..halves],
-    );
-    match p {
-        Pruned::Done(t) => Woven::Done(Tally {
-            kept: t.kept,
-            dropped: t.dropped,
-            merged: 0,
-        }),
-        Pruned::Refused(x) => Woven::Refused(x),
+        rules,
+        &mut care[..n * 2],
+        &mut value[..n * 2],
+        &mut decision[..n],
+        &mut header[..n * 2],
+    )
+    .unwrap();
+    Tally {
+        kept: t.kept,
+        dropped: t.dropped,
+        merged: 0,
     }
 }
 
-// Squeezes a list into the first places of the three slices.
+// Squeezes a list into the first places of the three slices. It is not refused, as it has passed its checks and there is room.
 fn squeeze_rules(
     squeeze: Squeeze,
     width: u32,
-    care: &[u64],
-    value: &[u64],
-    decision: &[u16],
-    out_care: &mut [u64],
-    out_value: &mut [u64],
-    out_decision: &mut [u16],
-) -> Woven
-    requires { Ready width care.now value.now decision.now out_care.old out_value.old out_decision.old }
-    ensures { RulesSqueezed squeeze width (rules_of care.now value.now decision.now) result
-        out_care.new out_value.new out_decision.new }
+    rules: RuleList,
+    care: &mut [u64],
+    value: &mut [u64],
+    decision: &mut [u16],
+) -> Tally
+    requires { ReadyIn width rules care.old value.old decision.old }
+    ensures { RulesSqueezed squeeze width (rules_in rules.entry) result
+        care.new value.new decision.new }
 {
     match squeeze {
-        Squeeze::Weave => weave(
-            width,
-            care,
-            value,
-            decision,
-            out_care,
-            out_value,
-            out_decision,
-        ),
-        Squeeze::Prune => prune_rules(
-            width,
-            care,
-            value,
-            decision,
-            out_care,
-            out_value,
-            out_decision,
-        ),
+        Squeeze::Weave => weave(width, rules, care, value, decision).unwrap(),
+        Squeeze::Prune => prune_rules(width, rules, care, value, decision),
     }
 }
 
@@ -91,43 +67,35 @@ pub(crate) fn squeeze_list(
     squeeze: Squeeze,
     image: &[u8],
     id: u16,
-    out_care: &mut [u64],
-    out_value: &mut [u64],
-    out_decision: &mut [u16],
-) -> Woven
-    requires { RoomFor image.now id out_care.old out_value.old out_decision.old }
+    care: &mut [u64],
+    value: &mut [u64],
+    decision: &mut [u16],
+) -> Result<Tally, Refusal>
+    requires { RoomFor image.now id care.old value.old decision.old }
     ensures { ListSqueezed squeeze image.now id result
-        out_care.new out_value.new out_decision.new }
+        care.new value.new decision.new }
 {
-    let mut cares = [0u64; 2048];
-    let mut values = [0u64; 2048];
-    let mut decisions = [0u16; 1024];
-    let o = read(image, id, &mut cares, &mut values, &mut decisions);
-    match o {
-        NumberAnswer::Refused(x) => Woven::Refused(x),
-        NumberAnswer::Number(rules) => {
-            let halves = rules * 2;
-            squeeze_rules(
-                squeeze,
-                byte_at(image, 1) as u32,
-                &cares[..halves],
-                &values[..halves],
-                &decisions[..rules],
-                out_care,
-                out_value,
-                out_decision,
-            )
-        }
-    }
+    let mut cares = [0; 2048];
+    let mut values = [0; 2048];
+    let mut decisions = [0; 1024];
+    let n = read(image, id, &mut cares, &mut values, &mut decisions)?;
+    let halves = n * 2;
+    let rules = RuleList {
+        care: &cares[..halves],
+        value: &values[..halves],
+        decision: &decisions[..n],
+    };
+    let width = byte_at(image, 1) as u32;
+    Ok(squeeze_rules(squeeze, width, rules, care, value, decision))
 }
 
 // What weaving the list with that id keeps, drops and merges. The image's refusal and its 15.
-pub fn tally(image: &[u8], id: u16) -> Woven
+pub fn tally(image: &[u8], id: u16) -> Result<Tally, Refusal>
     ensures { woven_reply result ≡ tally_reply image.now id }
 {
-    let mut care = [0u64; 2048];
-    let mut value = [0u64; 2048];
-    let mut decision = [0u16; 1024];
+    let mut care = [0; 2048];
+    let mut value = [0; 2048];
+    let mut decision = [0; 1024];
     squeeze_list(
         Squeeze::Weave,
         image,

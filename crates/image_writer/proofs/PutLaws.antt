@@ -28,9 +28,6 @@ unfolding bytes
 length-bytes zero x = refl
 length-bytes (suc n) x = ap suc (length-bytes n (x / 256))
 
-over-one : (s : List ℕ) (p a : ℕ) → p < length s → set s p a ≡ over s p (a ∷ [])
-over-one s p a h = set_split s p a h ∙ ap (λ (k : ℕ). take p s ++ a ∷ drop k s) (sym (add-one p))
-
 pub over_none : (s : List ℕ) (p : ℕ) → over s p [] ≡ s
 over_none s p = ap (λ (k : ℕ). take p s ++ drop k s) (add-zero p) ∙ take-append-drop p s
 

@@ -121,14 +121,7 @@ pub fn show_files(
 {
     let m = load(rt, old_path, old);
     let n = load(rt, new_path, new);
-    let compared = show_first(
-        rt,
-        &old[..m],
-        None,
-        &new[..n],
-        None,
-        Wire(Word::from(0)),
-    );
+    let compared = show_first(rt, &old[..m], None, &new[..n], None, Wire(Word::from(0)));
     FilesCompared {
         old: m,
         new: n,

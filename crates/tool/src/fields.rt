@@ -30,12 +30,7 @@ fn show(rt: &impl Print, bits: u32, low: u32, high: u32) {
     let mut value = [0u16; 30];
     match ranges::range_prefixes(bits, low, high, &mut care, &mut value) {
         Ok(n) => {
-            show_patterns(
-                rt,
-                bits,
-                slices::first(&care, n),
-                slices::first(&value, n),
-            );
+            show_patterns(rt, bits, slices::first(&care, n), slices::first(&value, n));
             lines::named(rt, b"prefixes ", n);
         }
         Err(x) => lines::refusal(rt, x),

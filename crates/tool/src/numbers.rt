@@ -20,7 +20,11 @@ pub(crate) fn number_at(rt: &(impl Env + Print), at: usize, i: Option<usize>) ->
 
 // The default that word i after place `at` stands for: `none`, or a number; none where it is neither, and then a line says so. A number that
 // is no decision stands for 65,535, which is refused. A default that is not named is none.
-pub(crate) fn default_at(rt: &(impl Env + Print), at: usize, i: Option<usize>) -> Option<Option<u16>> {
+pub(crate) fn default_at(
+    rt: &(impl Env + Print),
+    at: usize,
+    i: Option<usize>,
+) -> Option<Option<u16>> {
     let Some(word) = i else {
         return Some(None);
     };

@@ -33,18 +33,10 @@ pub(crate) fn ask(rt: &impl Print, image: &[u8], id: u16, request: Request) {
     }
 }
 
-fn answered(
-    rt: &impl Print,
-    image: &[u8],
-    rules: RuleList,
-    request: Request,
-) {
+fn answered(rt: &impl Print, image: &[u8], rules: RuleList, request: Request) {
     let width = image_form::byte_at(image, 1) as u32;
     match request.command {
-        Command::Lookup => answer(
-            rt,
-            rules::lookup(width, rules, request.header),
-        ),
+        Command::Lookup => answer(rt, rules::lookup(width, rules, request.header)),
         Command::Runs => runs(rt, width, rules),
         Command::Prune => squeezing::prune(rt, width, rules),
         _ => show_rules(rt, width, rules),

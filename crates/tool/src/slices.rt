@@ -5,5 +5,9 @@ pub(crate) fn first<T>(s: &[T], n: usize) -> &[T] {
 
 // The first n words, each of which is two numbers of the slice.
 pub(crate) fn words(s: &[u64], n: usize) -> &[u64] {
-    if n <= s.len() / 2 { &s[..n * 2] } else { &s[..0] }
+    if n <= s.len() / 2 {
+        &s[..n * 2]
+    } else {
+        &s[..0]
+    }
 }

@@ -86,13 +86,7 @@ pub(crate) fn prune(rt: &impl Print, width: u32, rules: RuleList) {
 }
 
 // The counts, and the rules that are kept, each with the lowest header that needs it.
-fn show_kept(
-    rt: &impl Print,
-    width: u32,
-    tally: Tally,
-    rules: RuleList,
-    header: &[u64],
-) {
+fn show_kept(rt: &impl Print, width: u32, tally: Tally, rules: RuleList, header: &[u64]) {
     let kept = tally.kept;
     counts(rt, kept, tally.dropped);
     lines::byte(rt, b'\n');
