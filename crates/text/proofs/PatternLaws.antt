@@ -8,13 +8,14 @@ use native.Mathlib.Numerals.{add-one}
 use lib.Dec.{eqb}
 use lib.ListN.{length, get_or, drop, set, length-append, get_or-append}
 use lib.Seq.{get_or-append_seam}
-use borrow.Author.Tests.{lt-leb, le-leb, eq-eqb, ne_eqb}
+use borrow.Author.Tests.{eq-eqb, ne_eqb}
 use Rattle.words.specs.Words.{place_bit}
 use Rattle.words.proofs.Tests.{split, eqb_yes, no_eqb}
 use Rattle.rules.specs.Rule.{Rule}
 use Rattle.rules.specs.Rules.{choose}
-use Rattle.std.specs.Prelude.{Some, None, if◌then◌else◌}
-use Rattle.rules.specs.Checks.{widest}
+use Rattle.std.specs.Prelude.{Some, None}
+use Rattle.rules.specs.Replies.{Reply, Refuses, passed, unless_refused}
+use Rattle.rules.specs.Checks.{width_check}
 use Rattle.text.specs.Patterns.{glyph_at, places_text, pattern_text}
 use Rattle.text.specs.Put.{Put}
 use Rattle.text.proofs.PutLaws.{put_next, put_all, put-none, put-short}
@@ -55,19 +56,19 @@ text-place w r (suc k) p h =
 
 -- ---- the whole pattern
 
-over-text : (w : ℕ) (r : Rule) → widest < w → pattern_text w r ≡ None
+no-text : (w : ℕ) (r : Rule) → width_check w ≡ Refuses 1 0 0 → pattern_text w r ≡ None
 unfolding pattern_text
-over-text w r h = ap (λ (t : Bool). if t then Some (places_text w r w) else None) (lt-leb w widest h)
+no-text w r e = ap (λ (x : Reply). unless_refused x (Some (places_text w r w)) None) e
 
-whole-text : (w : ℕ) (r : Rule) → w ≤ widest → pattern_text w r ≡ Some (places_text w r w)
+whole-text : (w : ℕ) (r : Rule) → width_check w ≡ passed → pattern_text w r ≡ Some (places_text w r w)
 unfolding pattern_text
-whole-text w r h = ap (λ (t : Bool). if t then Some (places_text w r w) else None) (le-leb w widest h)
+whole-text w r e = ap (λ (x : Reply). unless_refused x (Some (places_text w r w)) None) e
 
 module _ (w : ℕ) (r : Rule) (old : List ℕ) where
-  pub over-wide : widest < w → Put (pattern_text w r) old None old
-  over-wide h = rw (over-text w r h) (put-none old)
+  pub no-width : width_check w ≡ Refuses 1 0 0 → Put (pattern_text w r) old None old
+  no-width e = rw (no-text w r e) (put-none old)
 
-  module _ (g : w ≤ widest) where
+  module _ (g : width_check w ≡ passed) where
     pub too_short : length old < w → Put (pattern_text w r) old None old
     too_short h = rw (whole-text w r g) (put-short (places_text w r w) old (omega (arith, text-length w r w)))
 

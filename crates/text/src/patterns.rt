@@ -20,11 +20,14 @@ fn glyph(width: u32, rule: Rule, place: u32) -> u8
 }
 
 // Puts the pattern of a rule at the start of `out`, place 1 first, and answers how many bytes it takes, the width; None
-// where the width is over 128 or `out` is too short, and then nothing changes.
+// where the width is not 1 to 128 or `out` is too short, and then nothing changes.
 pub fn write_pattern(width: u32, rule: Rule, out: &mut [u8]) -> Option<usize>
     ensures { Put (pattern_text width (rule_of rule)) out.old result out.new }
 {
     let size = width as usize;
+    if width < 1 {
+        return None;
+    }
     if 128 < width {
         return None;
     }
