@@ -169,19 +169,15 @@ fn items<T: PartialEq + Display>(
 
 // The words of a slice, and a number that is left over after them.
 pub fn slice(out: &mut String, s: &[u64]) -> Result<(), AllocError> {
-    let (pairs, rest) = s.as_chunks::<2>();
-    let numbers = pairs.iter().map(|[low, high]| whole(Word {
-        low: *low,
-        high: *high,
-    }));
-    let numbers: Vec<u128> = numbers.collect(*out.allocator())?;
+    let words = (0..s.len() / 2).map(|i| whole(words::word_at(s, i)));
+    let words: Vec<u128> = words.collect(*out.allocator())?;
     out.push_str("[")?;
-    items(out, numbers.as_slice(), " ")?;
-    for half in rest {
-        if !pairs.is_empty() {
+    items(out, words.as_slice(), " ")?;
+    if s.len() % 2 == 1 {
+        if s.len() > 1 {
             out.push_str(" ")?;
         }
-        write!(out, "half {half}")?;
+        write!(out, "half {}", s[s.len() - 1])?;
     }
     out.push_str("]")
 }
