@@ -22,7 +22,7 @@ both : {A : Type 0} {a b c : A} → a ≡ c → b ≡ c → a ≡ b
 both p q = p ∙ sym q
 
 -- `refused`
-pub refused-once : (n : Reason) (l i : ℕ) (a b : Result (Unit {0}) Refusal) → verdict_reply a ≡ Refuses (number_of n) l i → verdict_reply b ≡ Refuses (number_of n) l i → a ≡ b
+pub refused-once : (n l i : ℕ) (a b : Result (Unit {0}) Refusal) → verdict_reply a ≡ Refuses n l i → verdict_reply b ≡ Refuses n l i → a ≡ b
 refused-once n l i a b p q = one-verdict a b (both p q)
 
 -- `check_width`

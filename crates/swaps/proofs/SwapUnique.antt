@@ -64,3 +64,7 @@ lookup-swapped-once w cs vs ds h a b p q = one-looked a b (p ∙ sym q)
 -- `place_bit`
 pub place-bit-once : (w : ℕ) (x : Word) (p : ℕ) (a b : ℕ) → a ≡ place_bit w (num x) p → b ≡ place_bit w (num x) p → a ≡ b
 place-bit-once w x p a b q r = q ∙ sym r
+
+-- a swap that is refused: the refusal alone
+pub refused-swap-once : (x : Refusal) (a b : Result Swap Refusal) → a ≡ Err x → b ≡ Err x → a ≡ b
+refused-swap-once x a b p q = p ∙ sym q
