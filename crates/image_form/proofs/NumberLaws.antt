@@ -6,8 +6,8 @@ use native.Mathlib.Nat.{pow-suc}
 use native.Mathlib.Omega.{arith}
 use lib.ListN.{length, get_or, take, drop, length-drop, length-append, take-append-drop}
 use lib.Seq.{drop-drop, take-suc, take-take, take_all, length-take-le}
-use Rattle.std.proofs.lemmas.List.{drop-take}
-use Rattle.std.proofs.Common.{Fits, w8, w64, replicate}
+use Rattle.std.proofs.lemmas.List.{drop-take, drop_all}
+use Rattle.std.proofs.Common.{Fits, w8, w32, w64, replicate}
 use Rattle.std.specs.Int.{from_le_bytes, sum_through, byte_worth}
 use Rattle.words.specs.declared.Word.{Word}
 use Rattle.words.specs.Halves.{word, halves}
@@ -60,6 +60,29 @@ eight-padded s n h e =
     let z : le t ≡ 0 * 256 ^ length s + le s =
     le-append s (drop (length s) (replicate 8 0)) ∙ ap (λ (k : ℕ). k * 256 ^ length s + le s) (zeros-none (length s) 8) in
     e ∙ worths t 7 (omega arith) ∙ ap le (take_all 8 t (omega arith)) ∙ z ∙ omega arith
+
+-- past the end there are no bytes, which are 0
+pub le-past : (n : ℕ) (s : List ℕ) → length s ≤ n → 0 ≡ le (drop n s)
+unfolding le
+le-past n s h = sym (ap le (drop_all n s h))
+
+-- a number of n bytes is below as many places of 256
+pub le-fits : (n : ℕ) (s : List ℕ) → ((i : ℕ) → Fits w8 (get_or s i 0)) → n ≤ length s → le (take n s) < 256 ^ n
+unfolding le
+le-fits zero s f h = omega arith
+le-fits (suc n) [] f h = absurd (omega arith)
+le-fits (suc n) (b ∷ s) f h = rw pow-suc (omega (arith, le-fits n s (λ i. f (suc i)) (omega arith), f 0))
+
+-- the library's number of the first 4 bytes
+pub four-read : (s : List ℕ) (n : ℕ) → 4 ≤ length s → ((i : ℕ) → Fits w8 (get_or s i 0))
+    → n ≡ from_le_bytes w32 (get_or s 0 0 ∷ get_or s 1 0 ∷ get_or s 2 0 ∷ get_or s 3 0 ∷ []) → (n ≡ le (take 4 s)) × (n < 256 ^ length (take 4 s))
+four-read [] n h f e = absurd (omega arith)
+four-read (a ∷ []) n h f e = absurd (omega arith)
+four-read (a ∷ b ∷ []) n h f e = absurd (omega arith)
+four-read (a ∷ b ∷ c ∷ []) n h f e = absurd (omega arith)
+four-read (a ∷ b ∷ c ∷ d ∷ s) n h f e =
+    let q : n ≡ le (a ∷ b ∷ c ∷ d ∷ []) = e ∙ worths (a ∷ b ∷ c ∷ d ∷ []) 3 (omega arith) in
+    (q, rw q (le-fits 4 (a ∷ b ∷ c ∷ d ∷ s) f h))
 
 -- ---- words: one number of 8 bytes in format 1, and two in format 2
 

@@ -1,9 +1,9 @@
 // Numbers, words and rules out of little-endian bytes.
 ghost use Rattle.std.specs.Prelude.{◌≡◌, ◌+◌, ◌^◌, ◌≤◌, ◌<◌, length};
-ghost use Rattle.image_form.specs.Bytes.{le};
+ghost use Rattle.image_form.specs.Bytes.{le, number_in, part};
 ghost use Rattle.words.specs.Halves.{halves};
 ghost use Rattle.rules.specs.Rule.{held};
-ghost use Rattle.image_form.specs.Formats.{rule_size};
+ghost use Rattle.image_form.specs.Formats.{word_bytes, rule_size};
 ghost use Rattle.image_form.specs.Images.{rule_in};
 
 use crate::formats::layout;
@@ -20,14 +20,25 @@ pub(crate) fn number(bytes: &[u8]) -> u64
     u64::from_le_bytes(eight)
 }
 
-// The word in these bytes: 8 of them in format 1, which are its low half, and 16 in format 2, the low half first.
-fn word(bytes: &[u8]) -> Word
-    requires { (8 ≤ length bytes.now) × (length bytes.now ≤ 16) }
+// The number in the first 4 of these bytes.
+pub(crate) fn first_four(bytes: &[u8]) -> u32
+    requires { 4 ≤ length bytes.now }
+    ensures { (result ≡ number_in 4 0 bytes.now) × (result < 256 ^ length (part 4 0 bytes.now)) }
+{
+    u32::from_le_bytes([bytes[0], bytes[1], bytes[2], bytes[3]])
+}
+
+// The word in these bytes: 8 of them in format 1, which are its low half, and 16 in format 2, the low half first. Each half is read from a
+// part whose length stands in the code: a part of any length would be copied by a call.
+fn word(format: u8, bytes: &[u8]) -> Word
+    requires { length bytes.now ≡ word_bytes format }
     ensures { result ≡ halves (le bytes.now) }
 {
-    let (low, high) = bytes.split_at(8);
-    let low = number(low);
-    let high = number(high);
+    let low = number(&bytes[..8]);
+    if format == 1 {
+        return Word { low, high: 0 };
+    }
+    let high = number(&bytes[8..16]);
     Word { low, high }
 }
 
@@ -40,8 +51,8 @@ pub(crate) fn rule_here(format: u8, bytes: &[u8]) -> Rule
     let (care, rest) = bytes.split_at(size);
     let (value, decision) = rest.split_at(size);
     Rule {
-        care: word(care),
-        value: word(value),
-        decision: number(decision) as u16,
+        care: word(format, care),
+        value: word(format, value),
+        decision: number(&decision[..2]) as u16,
     }
 }

@@ -6,7 +6,7 @@ ghost use Rattle.image_form.specs.Parts.{EntryRead, rule_from};
 
 use crate::Entry;
 use crate::formats::layout;
-use crate::numbers::{number, rule_here};
+use crate::numbers::{first_four, number, rule_here};
 use rules::{BLANK, Rule};
 
 // The byte at a place, counted from 0, as a number that sums and products have room in; 0 past the end.
@@ -29,9 +29,13 @@ pub fn entry_in(b: &[u8], at: usize) -> Entry
     ensures { EntryRead b.now at result }
 {
     let Some(bytes) = part(b, at, 8) else {
-        return Entry::default();
+        return Entry {
+            offset: 0,
+            count: 0,
+            id: 0,
+        };
     };
-    let offset = number(&bytes[..4]) as usize;
+    let offset = first_four(bytes) as usize;
     let count = number(&bytes[4..6]) as usize;
     let id = number(&bytes[6..8]) as usize;
     Entry { offset, count, id }

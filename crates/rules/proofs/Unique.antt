@@ -15,7 +15,7 @@ use Rattle.rules.specs.Slices.{rules_of, rule_at, Placed}
 use Rattle.rules.specs.Replies.{◌then◌, Refuses, number_of, verdict_reply, looked_reply}
 use Rattle.rules.specs.Checks.{width_check, lengths_check, header_check, room_check}
 use Rattle.rules.specs.Calls.{check_rule, check_list, looked_up}
-use Rattle.rules.proofs.ReplyLaws.{one-verdict, one-looked}
+use Rattle.rules.proofs.ReplyLaws.{one-verdict, one-looked, one-reason}
 
 -- two things that equal a third
 both : {A : Type 0} {a b c : A} → a ≡ c → b ≡ c → a ≡ b
@@ -74,3 +74,7 @@ put-rule-once cs vs ds i r c v d c' v' d' p q =
 -- `Reason::number`
 pub number-once : (x : Reason) (a b : ℕ) → a ≡ number_of x → b ≡ number_of x → a ≡ b
 number-once x a b p q = both p q
+
+-- `Reason::from`
+pub reason-once : (n : ℕ) (a b : Reason) → number_of a ≡ n → number_of b ≡ n → a ≡ b
+reason-once n a b p q = one-reason a b (both p q)

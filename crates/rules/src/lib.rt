@@ -6,6 +6,7 @@ ghost use Rattle.rules.specs.Replies.{number_of};
 
 mod checks;
 mod lookups;
+mod numbers;
 mod slices;
 
 pub use checks::{
@@ -13,6 +14,7 @@ pub use checks::{
     refused,
 };
 pub use lookups::{lookup, lookup_number};
+pub use numbers::OtherNumber;
 pub use slices::{put_rule, rule_at};
 use words::Word;
 
@@ -45,30 +47,31 @@ pub struct RuleList<'a> {
 #[derive(Clone, Copy)]
 pub struct Wire(pub Word);
 
-// What a check finds wrong. Each has the number by which it is known outside.
+// What a check finds wrong. Each has the number by which it is known outside. A caller with refusals of its own has the numbers that are left.
 #[derive(Clone, Copy, Debug, PartialEq, Eq)]
 pub enum Reason {
-    Width = 1,
-    Slices = 2,
-    Rules = 3,
-    Pattern = 4,
-    Decision = 5,
-    Header = 6,
-    Room = 7,
-    Crossing = 8,
-    Swap = 9,
-    Size = 10,
-    Format = 11,
-    Lists = 12,
-    Ids = 13,
-    Offset = 14,
-    NoSuchList = 15,
-    Widths = 16,
-    Range = 20,
-    Fields = 23,
-    EmptyList = 24,
-    Longer = 27,
-    Differs = 28,
+    Width,
+    Slices,
+    Rules,
+    Pattern,
+    Decision,
+    Header,
+    Room,
+    Crossing,
+    Swap,
+    Size,
+    Format,
+    Lists,
+    Ids,
+    Offset,
+    NoSuchList,
+    Widths,
+    Range,
+    Fields,
+    EmptyList,
+    Longer,
+    Differs,
+    Other(OtherNumber),
 }
 
 impl Reason {
@@ -76,7 +79,62 @@ impl Reason {
     pub fn number(self) -> usize
         ensures { result ≡ number_of self }
     {
-        self as usize
+        match self {
+            Reason::Width => 1,
+            Reason::Slices => 2,
+            Reason::Rules => 3,
+            Reason::Pattern => 4,
+            Reason::Decision => 5,
+            Reason::Header => 6,
+            Reason::Room => 7,
+            Reason::Crossing => 8,
+            Reason::Swap => 9,
+            Reason::Size => 10,
+            Reason::Format => 11,
+            Reason::Lists => 12,
+            Reason::Ids => 13,
+            Reason::Offset => 14,
+            Reason::NoSuchList => 15,
+            Reason::Widths => 16,
+            Reason::Range => 20,
+            Reason::Fields => 23,
+            Reason::EmptyList => 24,
+            Reason::Longer => 27,
+            Reason::Differs => 28,
+            Reason::Other(x) => x.number,
+        }
+    }
+}
+
+// The reason that has this number.
+impl From<usize> for Reason {
+    ghost from_gives = { λ n r. number_of r ≡ n };
+
+    fn from(number: usize) -> Reason {
+        match number {
+            1 => Reason::Width,
+            2 => Reason::Slices,
+            3 => Reason::Rules,
+            4 => Reason::Pattern,
+            5 => Reason::Decision,
+            6 => Reason::Header,
+            7 => Reason::Room,
+            8 => Reason::Crossing,
+            9 => Reason::Swap,
+            10 => Reason::Size,
+            11 => Reason::Format,
+            12 => Reason::Lists,
+            13 => Reason::Ids,
+            14 => Reason::Offset,
+            15 => Reason::NoSuchList,
+            16 => Reason::Widths,
+            20 => Reason::Range,
+            23 => Reason::Fields,
+            24 => Reason::EmptyList,
+            27 => Reason::Longer,
+            28 => Reason::Differs,
+            _ => Reason::Other(OtherNumber { number }),
+        }
     }
 }
 
