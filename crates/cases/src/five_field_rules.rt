@@ -1,5 +1,5 @@
 // Five-field rules, as a case hands them in.
-use crate::given::{MOST, field, numbers, read_fields, read_shorts, short};
+use crate::given::{MOST, numbers, read_fields, read_shorts};
 use crate::source::{Source, Unread};
 use five_fields::FiveFieldRules;
 
@@ -65,7 +65,7 @@ fn by_slices(case: &mut Source) -> Result<Columns, Unread> {
 // Rules of ten numbers each in brackets.
 fn by_numbers(case: &mut Source) -> Result<Columns, Unread> {
     let start = case.here();
-    let all = numbers(case, 32, 10 * MOST)?;
+    let all: Vec<u32> = numbers(case, 32, 10 * MOST)?;
     let (rows, rest) = all.as_chunks::<10>();
     if !rest.is_empty() {
         return Err(start);
@@ -83,16 +83,16 @@ fn by_numbers(case: &mut Source) -> Result<Columns, Unread> {
         decision: Vec::new(case.alloc),
     };
     for [a, b, c, d, e, f, g, h, p, q] in rows {
-        rules.source.push(field(*a))?;
-        rules.source_length.push(field(*b))?;
-        rules.destination.push(field(*c))?;
-        rules.destination_length.push(field(*d))?;
-        rules.source_low.push(field(*e))?;
-        rules.source_high.push(field(*f))?;
-        rules.destination_low.push(field(*g))?;
-        rules.destination_high.push(field(*h))?;
-        rules.protocol.push(field(*p))?;
-        rules.decision.push(short(*q).ok_or(start)?)?;
+        rules.source.push(*a)?;
+        rules.source_length.push(*b)?;
+        rules.destination.push(*c)?;
+        rules.destination_length.push(*d)?;
+        rules.source_low.push(*e)?;
+        rules.source_high.push(*f)?;
+        rules.destination_low.push(*g)?;
+        rules.destination_high.push(*h)?;
+        rules.protocol.push(*p)?;
+        rules.decision.push(u16::try_from(*q).ok().ok_or(start)?)?;
     }
     Ok(rules)
 }

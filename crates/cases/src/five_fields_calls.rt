@@ -1,6 +1,6 @@
 // The calls on five-field rules, and the one that makes a header of five numbers: the crates `five_fields` and `five_numbers`.
 use crate::five_field_rules::read_rules;
-use crate::given::{field, numbers, read_list};
+use crate::given::{numbers, read_list};
 use crate::show;
 use crate::show::Answer;
 use crate::source::{Source, Unread};
@@ -37,17 +37,17 @@ fn expand(case: &mut Source, out: &mut String) -> Result<(), Unread> {
 fn header(case: &mut Source, out: &mut String) -> Result<(), Unread> {
     case.name(b"numbers")?;
     let start = case.here();
-    let numbers = numbers(case, 32, 5)?;
+    let numbers: Vec<u32> = numbers(case, 32, 5)?;
     let [source, destination, source_port, destination_port, protocol] = numbers.as_slice() else {
         return Err(start);
     };
     case.end()?;
     let numbers = Numbers {
-        source: field(*source),
-        destination: field(*destination),
-        source_port: field(*source_port),
-        destination_port: field(*destination_port),
-        protocol: field(*protocol),
+        source: *source,
+        destination: *destination,
+        source_port: *source_port,
+        destination_port: *destination_port,
+        protocol: *protocol,
     };
     five_numbers::header(numbers).put(out)?;
     Ok(())

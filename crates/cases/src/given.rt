@@ -11,6 +11,36 @@ pub const MOST: usize = 4112;
 // How many bytes a slice has at most.
 const MOST_BYTES: usize = 65600;
 
+// A type that the numbers of a slice have.
+pub trait Given: Drop {
+    // The number that a word holds, where the type has it.
+    fn given(x: Word) -> Option<Self>;
+}
+
+impl Given for Word {
+    fn given(x: Word) -> Option<Word> {
+        Some(x)
+    }
+}
+
+impl Given for u32 {
+    fn given(x: Word) -> Option<u32> {
+        u32::try_from(words::capped(x)).ok()
+    }
+}
+
+impl Given for u16 {
+    fn given(x: Word) -> Option<u16> {
+        u16::try_from(words::capped(x)).ok()
+    }
+}
+
+impl Given for u8 {
+    fn given(x: Word) -> Option<u8> {
+        u8::try_from(words::capped(x)).ok()
+    }
+}
+
 // How many times what follows is meant: `3 times` before it, or once.
 fn times(case: &mut Source) -> Result<u64, Unread> {
     let mut ahead = *case;
@@ -133,23 +163,30 @@ fn next_item(case: &mut Source, bits: u32) -> Result<Item, Unread> {
     }
 }
 
-// Puts the numbers of an item at the end of a slice.
-fn put_numbers(item: Item, out: &mut Vec<Word>) -> Result<(), AllocFailed<Word>> {
+// Puts a number at the end of a slice.
+fn put<T: Given>(x: Word, start: Unread, out: &mut Vec<T>) -> Result<(), Unread> {
+    out.push(T::given(x).ok_or(start)?)?;
+    Ok(())
+}
+
+// Puts the numbers of an item at the end of a slice. They go into the slice as it is lent: in a larger type on the way an image would
+// take many times its size.
+fn put_numbers<T: Given>(item: Item, start: Unread, out: &mut Vec<T>) -> Result<(), Unread> {
     match item.way {
         Way::Same => {
             for _ in 0..item.count {
-                out.push(item.value)?;
+                put(item.value, start, out)?;
             }
         }
         Way::Up => {
             for k in 0..item.count {
-                out.push(words::plus(item.value, Word::from(k)))?;
+                put(words::plus(item.value, Word::from(k)), start, out)?;
             }
         }
         Way::Bytes => {
             let bytes = whole(item.value).to_le_bytes();
             for b in bytes.iter().take(item.count as usize) {
-                out.push(Word::from(u64::from(*b)))?;
+                put(Word::from(u64::from(*b)), start, out)?;
             }
         }
     }
@@ -157,12 +194,16 @@ fn put_numbers(item: Item, out: &mut Vec<Word>) -> Result<(), AllocFailed<Word>>
 }
 
 // Reads the next item into a slice, which holds at most so many numbers.
-fn put_item(case: &mut Source, bits: u32, most: usize, out: &mut Vec<Word>) -> Result<(), Unread> {
+fn put_item<T: Given>(
+    case: &mut Source,
+    bits: u32,
+    most: usize,
+    out: &mut Vec<T>,
+) -> Result<(), Unread> {
     let start = case.here();
     let item = next_item(case, bits)?;
     check_room(out.len(), item.count, most, start)?;
-    put_numbers(item, out)?;
-    Ok(())
+    put_numbers(item, start, out)
 }
 
 // Whether there is more to read before the other bracket or the word `half`.
@@ -171,7 +212,7 @@ fn is_more(case: &Source) -> bool {
 }
 
 // The numbers after a bracket, at most so many and each below 2^bits, up to the other bracket or the word `half`.
-fn words_after(case: &mut Source, bits: u32, most: usize) -> Result<Vec<Word>, Unread> {
+fn numbers_after<T: Given>(case: &mut Source, bits: u32, most: usize) -> Result<Vec<T>, Unread> {
     case.bracket(b'[')?;
     let mut all = Vec::new(case.alloc);
     // Each item takes a byte of the case at least, so this goes to the end, with no measure to prove.
@@ -185,8 +226,8 @@ fn words_after(case: &mut Source, bits: u32, most: usize) -> Result<Vec<Word>, U
 }
 
 // The numbers in brackets, at most so many and each below 2^bits.
-pub fn numbers(case: &mut Source, bits: u32, most: usize) -> Result<Vec<Word>, Unread> {
-    let all = words_after(case, bits, most)?;
+pub fn numbers<T: Given>(case: &mut Source, bits: u32, most: usize) -> Result<Vec<T>, Unread> {
+    let all = numbers_after(case, bits, most)?;
     case.bracket(b']')?;
     Ok(all)
 }
@@ -200,7 +241,7 @@ pub fn put_word(out: &mut Vec<u64>, x: Word) -> Result<(), AllocFailed<u64>> {
 // An argument that is a slice of words, two numbers to a word; after `half` it has one number more.
 pub fn read_numbers(case: &mut Source, name: &[u8]) -> Result<Vec<u64>, Unread> {
     case.name(name)?;
-    let words = words_after(case, 128, MOST)?;
+    let words: Vec<Word> = numbers_after(case, 128, MOST)?;
     let mut all = Vec::new(case.alloc);
     for x in words.iter() {
         put_word(&mut all, *x)?;
@@ -216,55 +257,27 @@ pub fn read_numbers(case: &mut Source, name: &[u8]) -> Result<Vec<u64>, Unread> 
     Ok(all)
 }
 
-// The numbers in brackets, at most so many and each below 2^bits, which are numbers of the type.
-fn narrow<T: TryFrom<u64> + Drop>(
-    case: &mut Source,
-    bits: u32,
-    most: usize,
-) -> Result<Vec<T>, Unread>
-where
-    T::Error: Drop,
-{
-    let start = case.here();
-    let words = numbers(case, bits, most)?;
-    let mut all = Vec::new(case.alloc);
-    for x in words.iter() {
-        all.push(T::try_from(x.low).ok().ok_or(start)?)?;
-    }
-    Ok(all)
-}
-
 // An argument that is a slice of decisions, ids or counts.
 pub fn read_shorts(case: &mut Source, name: &[u8]) -> Result<Vec<u16>, Unread> {
     case.name(name)?;
-    narrow(case, 16, MOST)
+    numbers(case, 16, MOST)
 }
 
 // An argument that is a slice of numbers of 32 bits, which five-field rules are lent in.
 pub fn read_fields(case: &mut Source, name: &[u8]) -> Result<Vec<u32>, Unread> {
     case.name(name)?;
-    narrow(case, 32, MOST)
+    numbers(case, 32, MOST)
 }
 
 // The numbers in brackets as bytes.
 pub fn bytes(case: &mut Source) -> Result<Vec<u8>, Unread> {
-    narrow(case, 8, MOST_BYTES)
+    numbers(case, 8, MOST_BYTES)
 }
 
 // An argument that is a slice of bytes.
 pub fn read_bytes(case: &mut Source, name: &[u8]) -> Result<Vec<u8>, Unread> {
     case.name(name)?;
     bytes(case)
-}
-
-// A word as a decision, where it is one.
-pub fn short(x: Word) -> Option<u16> {
-    u16::try_from(words::capped(x)).ok()
-}
-
-// The lowest 32 bits of a word.
-pub fn field(x: Word) -> u32 {
-    (x.low % 4294967296) as u32
 }
 
 // The care word and the value word of a pattern: `0` and `1` are cared for, `*` is not.

@@ -48,7 +48,7 @@ fn look_up<F: Fn(u32, RuleList<'_>, Word) -> Result<Option<Hit>, Refusal>>(
 {
     let (width, list) = width_and_list(case)?;
     case.name(b"headers")?;
-    let headers = numbers(case, 128, MOST)?;
+    let headers: Vec<Word> = numbers(case, 128, MOST)?;
     case.end()?;
     for (i, header) in headers.iter().enumerate() {
         if i != 0 {

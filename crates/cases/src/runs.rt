@@ -1,6 +1,7 @@
 // The four result slices of a comparison, as a case hands them in.
-use crate::given::{MOST, numbers, put_word, read_numbers, read_shorts, short};
+use crate::given::{Given, MOST, numbers, put_word, read_numbers, read_shorts};
 use crate::source::{Source, Unread};
+use words::Word;
 
 #[derive(Drop)]
 pub struct Runs {
@@ -27,7 +28,7 @@ fn by_slices(case: &mut Source) -> Result<Runs, Unread> {
 // Runs of four numbers each in brackets.
 fn by_numbers(case: &mut Source) -> Result<Runs, Unread> {
     let start = case.here();
-    let all = numbers(case, 128, 4 * MOST)?;
+    let all: Vec<Word> = numbers(case, 128, 4 * MOST)?;
     let (rows, rest) = all.as_chunks::<4>();
     if !rest.is_empty() {
         return Err(start);
@@ -41,8 +42,8 @@ fn by_numbers(case: &mut Source) -> Result<Runs, Unread> {
     for [first, last, old, new] in rows {
         put_word(&mut runs.first, *first)?;
         put_word(&mut runs.last, *last)?;
-        runs.old.push(short(*old).ok_or(start)?)?;
-        runs.new.push(short(*new).ok_or(start)?)?;
+        runs.old.push(u16::given(*old).ok_or(start)?)?;
+        runs.new.push(u16::given(*new).ok_or(start)?)?;
     }
     Ok(runs)
 }
