@@ -24,7 +24,7 @@ module _ (p : ℕ) (s : List ℕ) where
   unfolding entry_from
   entry-there h = ap (λ (t : Bool). pick_entry t (entry_in (drop p s)) (entry_with 0 0 0)) (le-leb _ _ h)
 
-  entry-none : length s < p + 8 → entry_from p s ≡ entry_with 0 0 0
+  pub entry-none : length s < p + 8 → entry_from p s ≡ entry_with 0 0 0
   unfolding entry_from
   entry-none h = ap (λ (t : Bool). pick_entry t (entry_in (drop p s)) (entry_with 0 0 0)) (lt-leb _ _ h)
 

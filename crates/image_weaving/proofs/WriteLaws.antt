@@ -60,22 +60,22 @@ module _ (z : Squeeze) (b : List ℕ) (n : ℕ) (ids ns cs vs ds : List ℕ) (U 
     pub long-counts : k ≡ length (take k ns)
     long-counts = sym (length-take-le k ns room-counts)
 
-  room-cares : n * 2 ≤ length cs
+  pub room-cares : n * 2 ≤ length cs
   room-cares = omega (arith, ready.cares, done.fits)
 
-  room-values : n * 2 ≤ length vs
+  pub room-values : n * 2 ≤ length vs
   room-values = omega (arith, ready.values, done.fits)
 
-  room-decisions : n ≤ length ds
+  pub room-decisions : n ≤ length ds
   room-decisions = omega (arith, ready.decisions, done.fits)
 
-  long-cares : n * 2 ≡ length (take (n * 2) cs)
+  pub long-cares : n * 2 ≡ length (take (n * 2) cs)
   long-cares = sym (length-take-le (n * 2) cs room-cares)
 
-  long-values : n * 2 ≡ length (take (n * 2) vs)
+  pub long-values : n * 2 ≡ length (take (n * 2) vs)
   long-values = sym (length-take-le (n * 2) vs room-values)
 
-  long-decisions : n ≡ length (take n ds)
+  pub long-decisions : n ≡ length (take n ds)
   long-decisions = sym (length-take-le n ds room-decisions)
 
   abbrev lists : List Named
