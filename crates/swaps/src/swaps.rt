@@ -177,7 +177,7 @@ impl Swap {
     }
 
     // This swap and a header: 1, then 6, then 9.
-    #[tactic(auto, using(rules::proofs::ReplyLaws::passing, crate::proofs::SwapCallLaws::whole), unfolding(crate::specs::SwapCalls::check_swap_header))]
+    #[tactic(auto, using(rules::proofs::ReplyLaws::passing, crate::proofs::SwapCallLaws::whole), unfolding(crate::specs::SwapCalls::check_swap_header, rules::specs::Checks::header_check))]
     fn check_with_header(&self, header: Word) -> Result<(), Refusal>
         ensures { verdict_reply result ≡ check_swap_header widest self.now (num header) }
     {
