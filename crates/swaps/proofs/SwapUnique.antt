@@ -13,7 +13,7 @@ use Rattle.rules.specs.declared.Hit.{Hit}
 use Rattle.rules.specs.declared.Refusal.{Refusal}
 use Rattle.swaps.specs.declared.swaps.Swap.{Swap}
 use Rattle.swaps.specs.declared.swaps.Swapped.{Swapped}
-use Rattle.rules.specs.Replies.{Reply, looked_reply}
+use Rattle.rules.specs.Replies.{Reply, looked_reply, refusal_reply}
 use Rattle.rules.specs.Checks.{widest}
 use Rattle.rules.specs.Calls.{looked_up}
 use Rattle.swaps.specs.Swaps.{moved, moved_rule, inverse}
@@ -65,6 +65,12 @@ lookup-swapped-once w cs vs ds h a b p q = one-looked a b (p ∙ sym q)
 pub place-bit-once : (w : ℕ) (x : Word) (p : ℕ) (a b : ℕ) → a ≡ place_bit w (num x) p → b ≡ place_bit w (num x) p → a ≡ b
 place-bit-once w x p a b q r = q ∙ sym r
 
--- a swap that is refused: the refusal alone
-pub refused-swap-once : (x : Refusal) (a b : Result Swap Refusal) → a ≡ Err x → b ≡ Err x → a ≡ b
-refused-swap-once x a b p q = p ∙ sym q
+-- a swap that is refused: whatever swap the call would have given, its one answer is the refusal
+pub refused-swap-once : (check : Reply) (s : Swap) (x : Refusal) (a b : Result Swap Refusal) → check ≡ refusal_reply x → SwapGiven check s a → SwapGiven check s b
+    → (a ≡ Err x) × (b ≡ Err x)
+refused-swap-once check s x a b e p q =
+    (one-swap-given check s a (Err x) p (sym e), one-swap-given check s b (Err x) q (sym e))
+
+-- such answers are equal
+pub refused-swaps-equal : (x : Refusal) (a b : Result Swap Refusal) → a ≡ Err x → b ≡ Err x → a ≡ b
+refused-swaps-equal x a b p q = p ∙ sym q

@@ -57,15 +57,17 @@ impl Swap {
     }
 
     // How many of the entries are `place`.
-    #[tactic(auto, using(crate::proofs::SwapSteps::times_count))]
-    fn times_of(&self, place: u32) -> usize
+    fn times_of(&self, place: u8) -> usize
         requires { self.now.width ≤ widest }
         ensures { result ≡ times self.now.width self.now.places place }
     {
-        self.entries()
-            .iter()
-            .filter(|p| u32::from(**p) == place)
-            .count()
+        let mut n = 0usize;
+        for p in self.entries() {
+            if *p == place {
+                n += 1;
+            }
+        }
+        n
     }
 
     // Whether entry k + 1 is as a swap of this width has it.
@@ -78,7 +80,7 @@ impl Swap {
         if self.width as usize <= k {
             return place == 0;
         }
-        1 <= place && place <= self.width && self.times_of(k as u32 + 1) == 1
+        1 <= place && place <= self.width && self.times_of(k as u8 + 1) == 1
     }
 
     // Whether the entries are 1 to width once each, and what stands behind them is 0.
@@ -175,7 +177,7 @@ impl Swap {
     }
 
     // This swap and a header: 1, then 6, then 9.
-    #[tactic(auto, using(rules::proofs::ReplyLaws::passing, crate::proofs::SwapCallLaws::whole), unfolding(crate::specs::SwapCalls::check_swap_header))]
+    #[tactic(auto, using(rules::proofs::ReplyLaws::passing, crate::proofs::SwapCallLaws::whole), unfolding(crate::specs::SwapCalls::check_swap_header, rules::specs::Checks::header_check))]
     fn check_with_header(&self, header: Word) -> Result<(), Refusal>
         ensures { verdict_reply result ≡ check_swap_header widest self.now (num header) }
     {
