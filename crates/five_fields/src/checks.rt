@@ -1,10 +1,10 @@
 // Checking a list of five-field rules: how long they are, and rule by rule what stands in them (refusals 2, 3, 23, 20 and 5).
-ghost use Rattle.std.specs.Prelude.{◌≡◌, get_or};
+ghost use Rattle.std.specs.Prelude.{◌≡◌, ◌^◌, ◌≤◌, get_or};
 ghost use Rattle.rules.specs.Replies.{verdict_reply};
 ghost use Rattle.rules.specs.Checks.{size_check};
 ghost use Rattle.ranges.specs.Calls.{is_range};
 ghost use Rattle.five_fields.specs.FiveFieldRule.{rule_of};
-ghost use Rattle.five_numbers.specs.Fields.{port_bits};
+ghost use Rattle.five_numbers.specs.Fields.{address_bits, port_bits};
 ghost use Rattle.five_fields.specs.FiveFieldRules.{is_prefix, fields_fit, ports_fit};
 ghost use Rattle.five_fields.specs.Slices.{lent, alike, rule_at, rules_in};
 ghost use Rattle.five_fields.specs.Calls.{five_field_check, five_fields_check, rules_check};
@@ -12,12 +12,20 @@ ghost use Rattle.five_fields.specs.Calls.{five_field_check, five_fields_check, r
 use crate::{FiveFieldRule, FiveFieldRules};
 use rules::{Reason, Refusal, refused};
 
+// 2^k, by a shift, which is one step: `pow` multiplies in a loop.
+pub(crate) fn power(k: u32) -> u64
+    requires { k ≤ address_bits }
+    ensures { result ≡ 2 ^ k }
+{
+    1u64 << k
+}
+
 // Whether at most 32 first bits of an address count, and it has no bit behind them.
 #[tactic(auto, unfolding(crate::specs::FiveFieldRules::is_prefix))]
 fn is_prefix(address: u32, length: u32) -> bool
     ensures { result ≡ is_prefix address length }
 {
-    length <= 32 && u64::from(address) % 2u64.pow(32 - length) == 0
+    length <= 32 && u64::from(address) % power(32 - length) == 0
 }
 
 // Whether the addresses and the protocol of a rule are what they should be.

@@ -12,6 +12,7 @@ ghost use Rattle.five_fields.specs.Expansion.{protocol_prefix};
 ghost use Rattle.five_fields.specs.Inner.{Bounded, entry_by, entries_inside, entries_by, Put};
 
 use crate::FiveFieldRule;
+use crate::checks::power;
 use five_numbers::{Numbers, header};
 use rules::{Rule, put_rule};
 use words::Word;
@@ -30,7 +31,7 @@ fn address_care(length: u32) -> u32
     requires { length ≤ address_bits }
     ensures { result ≡ 2 ^ address_bits - 2 ^ (address_bits - length) }
 {
-    (4294967296 - 2u64.pow(32 - length)) as u32
+    (4294967296 - power(32 - length)) as u32
 }
 
 // The care word of a protocol: none of its places for any, else all.

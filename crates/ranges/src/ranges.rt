@@ -7,6 +7,14 @@ ghost use Rattle.ranges.specs.Inner.{opens, Widest, PrefixesPut};
 
 use rules::{Reason, Refusal, refused};
 
+// 2^k, by a shift, which is one step: `pow` multiplies in a loop.
+fn power(k: u32) -> u32
+    requires { k ≤ widest_field }
+    ensures { result ≡ 2 ^ k }
+{
+    1u32 << k
+}
+
 // Checks a range: 1 where the field has not 1 to 16 bits, then 20 where low is above high or high outside the field.
 #[tactic(auto, unfolding(crate::specs::Calls::check_range, crate::specs::Calls::field_check, crate::specs::Calls::bounds_check))]
 fn range_verdict(bits: u32, low: u32, high: u32) -> Result<(), Refusal>
@@ -21,7 +29,7 @@ fn range_verdict(bits: u32, low: u32, high: u32) -> Result<(), Refusal>
     if high < low {
         return refused(Reason::Range, 0, 0);
     }
-    if 2u32.pow(bits) <= high {
+    if power(bits) <= high {
         return refused(Reason::Range, 0, 0);
     }
     Ok(())
@@ -33,7 +41,7 @@ fn can_open(at: u32, end: u32, stars: u32) -> bool
     requires { (at < end) × (end ≤ 2 ^ widest_field) × (stars ≤ widest_field) }
     ensures { result ≡ opens at end stars }
 {
-    let size = 2u32.pow(stars);
+    let size = power(stars);
     at % size == 0 && at + size <= end
 }
 
@@ -59,7 +67,7 @@ fn count_below(bits: u32, low: u32, end: u32) -> usize
     let mut n: usize = 0;
     // A `while`, since each prefix is a step of its own size.
     while at < end {
-        at += 2u32.pow(stars_at(bits, at, end));
+        at += power(stars_at(bits, at, end));
         n += 1;
     }
     n
@@ -71,12 +79,12 @@ fn put_below(bits: u32, low: u32, end: u32, care: &mut [u16], value: &mut [u16])
     requires end_in_bounds { (length (covering bits low end) ≤ length care.old) × (length (covering bits low end) ≤ length value.old) }
     ensures { PrefixesPut bits low end care.old value.old care.new value.new result }
 {
-    let field = 2u32.pow(bits);
+    let field = power(bits);
     let mut at = low;
     let mut n: usize = 0;
     // A `while`, as above.
     while at < end {
-        let size = 2u32.pow(stars_at(bits, at, end));
+        let size = power(stars_at(bits, at, end));
         care[n] = (field - size) as u16;
         value[n] = at as u16;
         at += size;

@@ -13,36 +13,35 @@ use Rattle.ranges.proofs.PutLaws.{putting-none, putting-count, putting-more, put
 use Rattle.ranges.proofs.ranges.put_below.Goals as goal
 
 -- one more prefix is left to write, and they are few
-left : (c : goal.After-pow-size) → c.loop-at.n < length (covering c.args.bits c.args.low c.args.end)
+left : (c : goal.After-power-size) → c.loop-at.n < length (covering c.args.bits c.args.low c.args.end)
 left c = let o = c.loop-at in
     omega (arith, putting-count _ _ _ _ _ _ _ _ _ o.invariant.2, widest-count c.args.bits o.at c.args.end _ c.requires.bits_le_widest_field.1 c.stars_at.ensures)
 
-few : (c : goal.After-pow-size) → c.loop-at.n < widest_field * 2
+few : (c : goal.After-power-size) → c.loop-at.n < widest_field * 2
 few c = omega (arith, left c, c.requires.bits_le_widest_field.0, range-few c.args.bits c.args.low c.args.end c.requires.bits_le_widest_field.1)
 
 -- the next prefix ends in the field
-ends : (c : goal.After-pow-size) → c.loop-at.at + c.pow-size.result ≤ 2 ^ widest_field
+ends : (c : goal.After-power-size) → c.loop-at.at + c.power-size.result ≤ 2 ^ widest_field
 ends c = let most : 2 ^ c.args.bits ≤ 2 ^ widest_field = pow_mono c.requires.bits_le_widest_field.0 in
-    omega (arith, most, c.requires.bits_le_widest_field.1, c.pow-size.ensures, (widest_fits _ _ _ _ c.requires.bits_le_widest_field.1 c.stars_at.ensures).1)
+    omega (arith, most, c.requires.bits_le_widest_field.1, c.power-size.ensures, (widest_fits _ _ _ _ c.requires.bits_le_widest_field.1 c.stars_at.ensures).1)
 
-some : (c : goal.After-pow-size) → 0 < c.pow-size.result
-some c = omega (arith, c.pow-size.ensures, pow_pos c.stars_at.result)
+some : (c : goal.After-power-size) → 0 < c.power-size.result
+some c = omega (arith, c.power-size.ensures, pow_pos c.stars_at.result)
 
 -- the care word of the next prefix
-words : (c : goal.After-pow-size) → c.pow-field.result - c.pow-size.result ≡ care_word c.args.bits (prefix c.stars_at.result c.loop-at.at)
+words : (c : goal.After-power-size) → c.power-field.result - c.power-size.result ≡ care_word c.args.bits (prefix c.stars_at.result c.loop-at.at)
 unfolding care_word
-words c = ap₂ (λ (x y : ℕ). x - y) c.pow-field.ensures c.pow-size.ensures
+words c = ap₂ (λ (x y : ℕ). x - y) c.power-field.ensures c.power-size.ensures
 
 pub loop-at-init : goal.loop-at-init
 loop-at-init c = (refl, refl, putting-none _ _ _ _ _)
 
-pub pow-size-requires : goal.pow-size-requires
-pow-size-requires c = let most : 2 ^ c.args.bits ≤ 2 ^ widest_field = pow_mono c.requires.bits_le_widest_field.0 in
-    omega (arith, most, pow_mono (widest_fits _ _ _ _ c.requires.bits_le_widest_field.1 c.stars_at.ensures).0)
+pub power-size-requires : goal.power-size-requires
+power-size-requires c = omega (arith, c.requires.bits_le_widest_field.0, (widest_fits _ _ _ _ c.requires.bits_le_widest_field.1 c.stars_at.ensures).0)
 
 pub overflow_sub-care : goal.overflow_sub-care
 overflow_sub-care c = let h : 2 ^ c.stars_at.result ≤ 2 ^ c.args.bits = pow_mono (widest_fits _ _ _ _ c.requires.bits_le_widest_field.1 c.stars_at.ensures).0 in
-    omega (arith, h, some c, c.pow-size.ensures, c.pow-field.ensures)
+    omega (arith, h, some c, c.power-size.ensures, c.power-field.ensures)
 
 pub offset_bounds-care-n : goal.offset_bounds-care-n
 offset_bounds-care-n c = omega (arith, few c)
@@ -66,7 +65,7 @@ pub loop-at-preserved : goal.loop-at-preserved
 loop-at-preserved c = let o = c.loop-at in (
   search rules,
   search rules,
-  putting-more _ _ _ _ _ _ _ _ _ o.invariant.2 _ _ _ c.requires.bits_le_widest_field.1 c.stars_at.ensures c.pow-size.ensures (words c) (omega (arith, left c, c.requires.end_in_bounds.0)) (omega (arith, left c, c.requires.end_in_bounds.1)),
+  putting-more _ _ _ _ _ _ _ _ _ o.invariant.2 _ _ _ c.requires.bits_le_widest_field.1 c.stars_at.ensures c.power-size.ensures (words c) (omega (arith, left c, c.requires.end_in_bounds.0)) (omega (arith, left c, c.requires.end_in_bounds.1)),
 )
 
 pub returns : goal.returns
