@@ -78,8 +78,8 @@ pub fn compare_list_outcomes(
         first.new last.new old_answer.new new_answer.new result }
 {
     let mut old_room = Room::new();
-    let mut new_room = Room::new();
     let source = old_room.read(old, old_id)?;
+    let mut new_room = Room::new();
     let candidate = new_room.read(new, new_id)?;
     check_widths(old, new)?;
     compare_outcomes(

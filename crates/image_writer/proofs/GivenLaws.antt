@@ -1,17 +1,14 @@
 -- The writer's checks, and how the lists that it is given follow the slices.
 use mathlib.Core.Path.{◌≡◌, refl, sym, ap, ap₂, ◌∙◌}
-use mathlib.Core.List.{List, [], ◌∷◌, map}
-use mathlib.Core.Bool.{true, ◌&&◌}
+use mathlib.Core.List.{List, [], ◌∷◌}
+use mathlib.Core.Bool.{true, false, ◌&&◌}
 use Prim.Native.Nat.{ℕ, zero, suc, ◌+◌, ◌-◌, ◌*◌, ◌≤◌, ◌<◌}
 use native.Mathlib.Numerals.{add-one}
 use native.Mathlib.Omega.{arith}
 use lib.Dec.{leb, eqb}
 use lib.ListN.{length, get_or, take, drop, drop_of_length-le}
-use Rattle.std.specs.List.{sum}
-use Rattle.std.proofs.lemmas.List.Sums.{sum-map}
-use Rattle.std.proofs.lemmas.List.Recursion.{is_sum_by}
 use lib.Seq.{drop-cons, drop-drop}
-use borrow.Author.Tests.{eq-eqb, le-leb, lt-leb, leb-true}
+use borrow.Author.Tests.{eq-eqb, ne_eqb, le-leb, lt-leb, leb-true}
 use Rattle.rules.specs.Lists.{All}
 use Rattle.rules.specs.Rule.{Rule}
 use Rattle.rules.specs.declared.Refusal.{Refusal}
@@ -19,7 +16,7 @@ use Rattle.rules.specs.Replies.{Refuses, passed, need, ◌then◌, refusal_reply
 use Rattle.rules.specs.Checks.{widest, lengths_check, rules_check}
 use Rattle.rules.specs.Calls.{check_list}
 use Rattle.rules.specs.Slices.{zipped, rules_of, Lent}
-use Rattle.words.proofs.Tests.{true-and, and-true, eqb_yes}
+use Rattle.words.proofs.Tests.{true-and, and-true, eqb_yes, yes_eqb, same_test}
 use Rattle.rules.proofs.ReplyLaws.{then_next, then-stop, then-refuses, need-yes, need-no, need-then, need-passed, then-second, Bare, bare-need, bare-then, bare-first}
 use Rattle.rules.proofs.CheckLaws.{list-rules, width-inside, lengths-yes, room-yes}
 use Rattle.rules.proofs.SliceLaws.{rules-take}
@@ -48,10 +45,20 @@ size-turn fmt ns i n h e =
     let spread : rule_size fmt * (n + rest) ≡ rule_size fmt * n + rule_size fmt * rest = omega arith in
     ap (λ (k : ℕ). rule_size fmt * k) (sum-turn ns i h ∙ ap (λ (k : ℕ). k + rest) (sym e)) ∙ spread
 
--- the sum that the library makes of the counts
-pub sum_counted : (ns : List ℕ) → sum (map (λ (n : ℕ). n) ns) ≡ sum_of ns
+pub sum-end : (ns : List ℕ) (i : ℕ) → length ns ≤ i → sum_of (drop i ns) ≡ 0
 unfolding sum_of
-sum_counted ns = sum-map (λ (n : ℕ). n) ns ∙ sym (is_sum_by sum_of (λ (n : ℕ). n) refl (λ n ns. refl) ns)
+sum-end ns i h = ap sum_of (drop_of_length-le ns h)
+
+-- counted down: what is left of the rules, and what is left of the counts
+pub sum_over : (ns : List ℕ) (i n left rules : ℕ) → i < length ns → n ≡ get_or ns i 0 → rules + sum_of (drop i ns) ≡ left + sum_of ns → left < n
+    → false ≡ eqb (sum_of ns) rules
+sum_over ns i n left rules h e k l = sym (ne_eqb (sum_of ns) rules (λ p. omega (arith, sum-turn ns i h)))
+
+pub sum-all : (ns : List ℕ) (i left rules : ℕ) → length ns ≤ i → rules + sum_of (drop i ns) ≡ left + sum_of ns → eqb left 0 ≡ eqb (sum_of ns) rules
+sum-all ns i left rules h k =
+    same_test (eqb left 0) (eqb (sum_of ns) rules)
+    (λ e. yes_eqb (sum_of ns) rules (omega (arith, eqb_yes left 0 e, sum-end ns i h)))
+    (λ e. yes_eqb left 0 (omega (arith, eqb_yes (sum_of ns) rules e, sum-end ns i h)))
 
 -- ---- refusal 2
 

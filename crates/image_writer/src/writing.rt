@@ -10,11 +10,20 @@ use crate::puts::{put_contents, put_head, put_rules};
 use image_form::layout;
 use rules::{Reason, Refusal, RuleList, check_list_as, check_room, refused};
 
-// Whether counts add up to a number of rules.
+// Whether counts add up to a number of rules. What is left of it is counted down, so that no sum can wrap, and the first count that is
+// more than that ends it.
 fn adds_up(counts: &[u16], rules: usize) -> bool
     ensures { result ≡ eqb (sum_of counts.now) rules }
 {
-    counts.iter().map(|n| u128::from(*n)).sum::<u128>() == rules as u128
+    let mut left = rules;
+    for n in counts {
+        let count = usize::from(*n);
+        if count > left {
+            return false;
+        }
+        left -= count;
+    }
+    left == 0
 }
 
 // Refusal 2: the lengths of the slices, and the counts.

@@ -62,10 +62,12 @@ fn run_at(rt: &impl Print, runs: RunList, i: usize) {
 pub(crate) fn runs(rt: &impl Print, runs: RunList, count: usize) -> usize
     ensures { result ≡ count }
 {
+    let mut written = 0;
     for i in 0..count {
         run_at(rt, runs, i);
+        written += 1;
     }
-    count
+    written
 }
 
 pub(crate) fn width(rt: &impl Print, image: &[u8]) {

@@ -20,7 +20,7 @@ returns-in_err-check_list_as c = let o = c.loop-i in
     let k = c.from.result in
     passed-up _ _ _ c.from_residual.ensures.1
     ∙ sym (o.invariant.1 ∙ cut-stop _ o.i o.from k (o.from + k) (o.from * 2) ((o.from + k) * 2) a.ids.now n a.rules.care.now a.rules.value.now a.rules.decision.now (omega arith) l c.from.ensures c.requires.0 c.requires.1 c.requires.4
-    (omega (arith, o.invariant.0, s, c.from.ensures)) (omega (arith, small, c.from.ensures)) (add-sub_cancel_left o.from k) refl (omega arith) _ c.in_err-check_list_as.ensures)
+    (omega (arith, o.invariant.0, s, c.from.ensures)) (omega (arith, small, c.from.ensures)) (add-sub_cancel_left o.from k) refl (omega arith) c.in_err-check_list_as.field-0.0 c.in_err-check_list_as.ensures)
 
 pub loop-i-preserved : goal.loop-i-preserved
 loop-i-preserved c = let o = c.loop-i in
