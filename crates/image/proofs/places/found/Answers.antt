@@ -10,7 +10,7 @@ use Rattle.image.proofs.places.found.Goals as goal
 
 pub returns-in_err-check : goal.returns-in_err-check
 unfolding id_check
-returns-in_err-check c = found_none _ _ _ _ c.from_residual.ensures.1 (then-stop _ _ _ (sym c.in_err-check.ensures))
+returns-in_err-check c = found_none _ _ _ _ c.from_residual.ensures.1 (then-stop _ _ c.in_err-check.field-0.0 (sym c.in_err-check.ensures))
 
 pub find-place-requires : goal.find-place-requires
 find-place-requires c = let f = image-facts _ [] (sym c.in_ok-check.ensures) in

@@ -8,7 +8,7 @@ use Rattle.image.proofs.SeekLaws.{body-none, body-found, id-facts}
 use Rattle.image.proofs.questions.body.Goals as goal
 
 pub returns-in_default : goal.returns-in_default
-returns-in_default c = body-none _ _ _ c.in_default.ensures
+returns-in_default c = body-none _ _ c.in_default.field-0 c.in_default.ensures
 
 pub bounds-image-0 : goal.bounds-image-0
 bounds-image-0 c = omega (arith, (id-facts _ _ c.in-Ok.ensures.checked).head.least)
