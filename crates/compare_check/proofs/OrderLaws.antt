@@ -20,6 +20,13 @@ twice : (x a b p : Reply) → ((x then a) then (x then b) then p) ≡ (x then a 
 twice (Gives ns) a b p = refl
 twice (Refuses n l r) a b p = refl
 
+-- four checks in two pairs
+in_pairs : (x a b c p : Reply) → (x then a then b then c then p) ≡ ((x then a) then (b then c) then p)
+in_pairs (Gives ms) (Gives ns) (Gives os) c p = refl
+in_pairs (Gives ms) (Gives ns) (Refuses n l r) c p = refl
+in_pairs (Gives ms) (Refuses n l r) b c p = refl
+in_pairs (Refuses n l r) a b c p = refl
+
 -- a default by its two cases, and the second by its number
 module _ (side : ℕ) (default : Option ℕ) where
   pub default-absent : default ≡ None → default_check side default ≡ passed
@@ -52,6 +59,13 @@ module _ (w : ℕ) (oc ov od : List ℕ) (old : Option ℕ) (nc nv nd : List ℕ
   in_order =
       sym (twice (width_check w) (list_check w 1 oc ov od) (list_check w 2 nc nv nd)
       (default_check 1 old then default_check 2 new then portion_check w start a b c d))
+
+  -- the same in the parts of the code: both lists, then both defaults, then the rest
+  pub in_parts : outcomes_check w oc ov od old nc nv nd new start a b c d
+      ≡ ((check_list w 1 oc ov od then check_list w 2 nc nv nd) then (default_check 1 old then default_check 2 new) then portion_check w start a b c d)
+  in_parts =
+      in_order
+      ∙ in_pairs (check_list w 1 oc ov od) (check_list w 2 nc nv nd) (default_check 1 old) (default_check 2 new) (portion_check w start a b c d)
 
   -- Where the checks are not a refusal, both lists are sound, the defaults pass, and so does the rest.
   pub record ComparisonReady : Type 0 where
