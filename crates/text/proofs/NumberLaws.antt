@@ -13,23 +13,12 @@ use Rattle.words.specs.Halves.{halves}
 use Rattle.words.proofs.Tests.{true-and, and-off, and-on, split}
 use Rattle.words.specs.declared.Word.{Word}
 use lib.Pointwise.{pointwise, bytes_decides}
-use Rattle.std.specs.Char.{digit_value}
-use Rattle.std.proofs.lemmas.Bool.Decides.{nat_tests}
 use Rattle.std.specs.Prelude.{Option, Some, None}
 use Rattle.text.specs.Numbers.{digit_of, number_if, goes_on, number_of, marked}
 
 -- ---- one digit after the other
 
--- the library's value of a digit, which goes on to z, in a base of at most 16
-digit-same : (b base : ℕ) → base ≤ 16 → (digit_value b < base → digit_of b ≡ digit_value b) × (base ≤ digit_value b → base ≤ digit_of b)
-unfolding digit_of
-digit-same b base h = (λ q. grind (arith, nat_tests), λ q. grind (arith, nat_tests))
-
-module _ (limit base n i : ℕ) (bs : List ℕ) (h : i < length bs) (small : base ≤ 16) where
-  -- the value of the byte at place i
-  abbrev digit_at : ℕ
-  digit_at = digit_value (get_or bs i 0)
-
+module _ (limit base n i : ℕ) (bs : List ℕ) (h : i < length bs) where
   goes-turn : goes_on limit base n (drop i bs)
       ≡ number_if (ltb (digit_of (get_or bs i 0)) base && ltb (n * base + digit_of (get_or bs i 0)) limit)
       (goes_on limit base (n * base + digit_of (get_or bs i 0)) (drop (i + 1) bs)) None
@@ -43,33 +32,18 @@ module _ (limit base n i : ℕ) (bs : List ℕ) (h : i < length bs) (small : bas
       → goes_on limit base n (drop i bs) ≡ number_if t (goes_on limit base (n * base + digit_of (get_or bs i 0)) (drop (i + 1) bs)) None
   goes_by t f = goes-turn ∙ ap (λ (b : Bool). number_if b (goes_on limit base (n * base + digit_of (get_or bs i 0)) (drop (i + 1) bs)) None) f
 
-  pub no_digit : (digit_at < base → ⊥) → goes_on limit base n (drop i bs) ≡ None
-  no_digit q = goes_by false (sym (and-off _ (le-ltb _ base ((digit-same (get_or bs i 0) base small).1 (omega (arith, q))))))
+  pub no_digit : (digit_of (get_or bs i 0) < base → ⊥) → goes_on limit base n (drop i bs) ≡ None
+  no_digit q = goes_by false (sym (and-off _ (le-ltb _ base (omega (arith, q)))))
 
   -- it is a digit: the number grows by it, where it stays below the limit
-  module _ (q : digit_at < base) where
-    e : digit_of (get_or bs i 0) ≡ digit_at
-    e = (digit-same (get_or bs i 0) base small).0 q
+  module _ (d : ℕ) (e : d ≡ digit_of (get_or bs i 0)) (q : digit_of (get_or bs i 0) < base) where
+    pub past-limit : (n * base + d < limit → ⊥) → goes_on limit base n (drop i bs) ≡ None
+    past-limit r = goes_by false (sym (sym (le-ltb _ _ (omega (arith, r))) ∙ and-on (lt-ltb _ base q)))
 
-    past-limit : limit ≤ n * base + digit_at → goes_on limit base n (drop i bs) ≡ None
-    past-limit r = goes_by false (sym (sym (le-ltb _ _ (omega (arith, e))) ∙ and-on (lt-ltb _ base (omega (arith, e)))))
-
-    -- as the code multiplies and adds
-    module _ (k : ℕ) (f : k ≡ base) where
-      pub past-product : (n * k < limit → ⊥) → goes_on limit base n (drop i bs) ≡ None
-      past-product r = past-limit (omega (arith, r, ap (λ (x : ℕ). n * x) f))
-
-      module _ (x y : ℕ) (g : x ≡ n * k) (d : y ≡ digit_at) where
-        sum : x + y ≡ n * base + digit_at
-        sum = omega (arith, g, ap (λ (z : ℕ). n * z) f)
-
-        pub past-sum : (x + y < limit → ⊥) → goes_on limit base n (drop i bs) ≡ None
-        past-sum r = past-limit (omega (arith, r, sum))
-
-        pub one_more : (m : ℕ) → m ≡ x + y → x + y < limit → goes_on limit base n (drop i bs) ≡ goes_on limit base m (drop (i + 1) bs)
-        one_more m o r =
-            let t : n * base + digit_of (get_or bs i 0) ≡ m = omega (arith, e, sum) in
-            goes_by true (true-and (lt-ltb _ base (omega (arith, e))) (lt-ltb _ _ (omega (arith, t)))) ∙ ap (λ (z : ℕ). goes_on limit base z (drop (i + 1) bs)) t
+    pub one_more : (m : ℕ) → m ≡ n * base + d → n * base + d < limit → goes_on limit base n (drop i bs) ≡ goes_on limit base m (drop (i + 1) bs)
+    one_more m o r =
+        let t : n * base + digit_of (get_or bs i 0) ≡ m = omega arith in
+        goes_by true (true-and (lt-ltb _ base q) (lt-ltb _ _ (omega arith))) ∙ ap (λ (z : ℕ). goes_on limit base z (drop (i + 1) bs)) t
 
 pub no_more : (limit base n i : ℕ) (bs : List ℕ) → length bs ≤ i → goes_on limit base n (drop i bs) ≡ Some (halves n)
 unfolding goes_on

@@ -1,10 +1,28 @@
 // Numbers read from words of text.
-ghost use Rattle.std.specs.Prelude.{◌≡◌, ◌≤◌, ◌==◌, None, length};
+ghost use Rattle.std.specs.Prelude.{◌≡◌, ◌≤◌, ◌<◌, ◌+◌, ◌*◌, ◌==◌, None, SomeIff, length};
 ghost use Rattle.words.specs.Halves.{limit};
-ghost use Rattle.text.specs.Numbers.{goes_on, number_if, number_of};
+ghost use Rattle.text.specs.Numbers.{digit_of, goes_on, number_if, number_of};
 
 use crate::digits;
 use words::Word;
+
+// The value of a byte as a digit of a base; None where it is none.
+#[tactic(auto, unfolding(crate::specs::Numbers::digit_of))]
+fn digit(b: u8, base: u32) -> Option<u32>
+    requires { (2 ≤ base) × (base ≤ 16) }
+    ensures { SomeIff result (digit_of b < base) (digit_of b) }
+{
+    (b as char).to_digit(base)
+}
+
+// A number with one digit more behind it; None where that is 2^128 or more.
+#[tactic(auto, unfolding(words::specs::Halves::limit))]
+fn grown(n: u128, base: u32, d: u32) -> Option<u128>
+    ensures { SomeIff result (n * base + d < limit) (n * base + d) }
+{
+    let more = n.checked_mul(u128::from(base))?;
+    more.checked_add(u128::from(d))
+}
 
 // The number that digits stand for; None where there are none or another byte is among them, or where the number is 2^128 or
 // more.
@@ -15,11 +33,10 @@ fn digits_of(bytes: &[u8], base: u32) -> Option<Word>
     if bytes.is_empty() {
         return None;
     }
-    let mut n: u128 = 0;
+    let mut n = 0;
     for b in bytes {
-        let d = (*b as char).to_digit(base)?;
-        let more = n.checked_mul(u128::from(base))?;
-        n = more.checked_add(u128::from(d))?;
+        let d = digit(*b, base)?;
+        n = grown(n, base, d)?;
     }
     Some(digits::word(n))
 }
