@@ -9,11 +9,11 @@ use Rattle.pruning.proofs.whole.prune.Goals as goal
 
 pub returns-in_err-check_list : goal.returns-in_err-check_list
 unfolding prune_reply
-returns-in_err-check_list c = prune-refused _ _ _ _ _ _ _ _ _ _ c.from_residual.ensures.1 (then-stop _ _ _ (sym c.in_err-check_list.ensures))
+returns-in_err-check_list c = prune-refused _ _ _ _ _ _ _ _ _ _ c.from_residual.ensures.1 (then-stop _ _ c.in_err-check_list.field-0.0 (sym c.in_err-check_list.ensures))
 
 pub returns-in_err-check_results : goal.returns-in_err-check_results
 returns-in_err-check_results c = prune-refused _ _ _ _ _ _ _ _ _ _ c.from_residual-in_err-check_results.ensures.1
-    (prune-results _ _ _ _ _ _ _ _ c.in_ok-check_list.ensures _ c.in_err-check_results.ensures)
+    (prune-results _ _ _ _ _ _ _ _ c.in_ok-check_list.ensures c.in_err-check_results.field-0.0 c.in_err-check_results.ensures)
 
 pub prune_into-requires : goal.prune_into-requires
 prune_into-requires c = prune-ready _ _ _ _ _ _ _ _ c.in_ok-check_list.ensures c.in_ok-check_results.ensures
