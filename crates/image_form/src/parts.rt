@@ -16,12 +16,17 @@ pub fn byte_at(b: &[u8], at: usize) -> usize
     usize::from(b.get(at).copied().unwrap_or(0))
 }
 
-// The `count` bytes from byte `at` on, where there are so many.
+// The `count` bytes from byte `at` on, where there are so many. The first test is one for all the places that are asked of the same bytes.
 fn part(b: &[u8], at: usize, count: usize) -> Option<&[u8]>
     ensures { MatchOption result (length b.now < at + count)
         (λ p. (at + count ≤ length b.now) × (p.now ≡ part count at b.now)) }
 {
-    b.get(at..)?.get(..count)
+    if count <= b.len() {
+        if at <= b.len() - count {
+            return Some(&b[at..at + count]);
+        }
+    }
+    None
 }
 
 // The contents entry in the 8 bytes from byte `at` on; the entry of zeros where there are not so many.
